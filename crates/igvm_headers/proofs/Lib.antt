@@ -1,0 +1,3 @@
+pub mod Bits
+pub mod Checksum
+pub mod Pages

@@ -1,0 +1,9 @@
+pub mod Causes
+pub mod Numbers
+pub mod Pages
+pub mod Checksum
+pub mod Names
+pub mod Fixed
+pub mod Records
+pub mod Kinds
+pub use Rattle.byteorder.specs.Endian

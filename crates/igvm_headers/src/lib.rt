@@ -1,0 +1,33 @@
+//! The base of the toolset: the types that all crates share, and the codec of IGVM headers.
+#![tactic(auto)]
+
+mod crc;
+mod crc_table;
+mod decode;
+mod digest;
+mod fault;
+mod fixed;
+mod flags;
+mod header;
+mod numbers;
+mod options;
+mod page_kind;
+mod page_view;
+mod param_kind;
+mod platform_kind;
+mod refusal;
+mod tag;
+
+pub use crc::{crc_begin, crc_end, crc_more, crc32};
+pub use decode::decode_header;
+pub use digest::Digest;
+pub use fault::{HeaderFault, ReadFault, ReadWhat};
+pub use fixed::{FixedHeader, read_fixed};
+pub use header::Header;
+pub use options::Options;
+pub use page_kind::{PageKind, page_kind_name};
+pub use page_view::PageView;
+pub use param_kind::{ParamKind, param_name};
+pub use platform_kind::{PlatformKind, kind_name};
+pub use refusal::{Failed, Memory};
+pub use tag::Tag;

@@ -1,0 +1,14 @@
+//! How a page enters a launch.
+
+/// What a page is to the launch that it is added to.
+#[derive(Clone, Copy, Debug, PartialEq, Eq)]
+pub enum Tag {
+    /// Its bytes are measured.
+    Normal,
+    /// Its place alone is measured.
+    Unmeasured,
+    /// The SNP secrets page.
+    Secrets,
+    /// An SNP CPUID page.
+    Cpuid,
+}

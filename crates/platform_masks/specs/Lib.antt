@@ -1,0 +1,3 @@
+pub mod Masks
+pub mod Platforms
+pub use Rattle.igvm_headers.specs.Kinds
