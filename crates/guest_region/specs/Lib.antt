@@ -1,0 +1,6 @@
+pub mod Parts
+pub mod Ownership
+pub mod Lease
+pub mod Lends
+pub mod Slots
+pub mod Region

@@ -1,0 +1,11 @@
+pub mod PiecesLemmas
+pub mod RulesLemmas
+pub mod Room
+pub mod Walking
+pub mod HeadersLemmas
+pub mod FitsLemmas
+pub mod SplitLaws
+pub mod CutLaws
+pub mod TrailingLaws
+pub mod HeaderLaws
+pub mod FaultLaws

@@ -1,0 +1,34 @@
+-- What holds of every file, in words that the reader does not share.
+use Rattle.std.specs.Prelude.{◌≡◌, ℕ, ◌+◌, List, take, sum_by, nat_lt, if◌then◌else◌, Some, Ok}
+use Rattle.std.specs.List.{slice_get}
+use Rattle.igvm_headers.specs.Fixed.{fixed_fields, fault_at}
+use Rattle.igvm_headers.specs.Records.{header_form}
+use Rattle.igvm_headers.specs.declared.header.Header.{Header}
+use Rattle.igvm_headers.specs.declared.fault.ReadFault.{ReadFault}
+use Rattle.igvm_headers.specs.declared.fault.ReadWhat.TheVariants.{TooShort, TotalSize}
+use Rattle.igvm_image.specs.Data.{data_of}
+use Rattle.igvm_image.specs.Pieces.{Piece, size_of}
+use Rattle.igvm_image.specs.Headers.{PlacedHeader, pieces_of, placed_headers}
+
+-- the file offset of piece k: the section's offset and the padded sizes of the pieces before
+abbrev pub place_of : List ℕ → ℕ → ℕ
+place_of file k = (fixed_fields file).var_offset + sum_by size_of (take k (pieces_of file))
+
+-- header k, which piece p spells, at its place and with its data
+abbrev pub header_at : List ℕ → ℕ → Piece → Header → PlacedHeader
+header_at file k p header = record {
+  index = k;
+  at = place_of file k;
+  header = header;
+  raw = p.content;
+  content = data_of file header;
+}
+
+-- piece k spells a header, and it is header k of the file
+pub record Spells (file : List ℕ) (k : ℕ) (p : Piece) (header : Header) : Type 0 where
+  pub form : header_form p.kind p.content ≡ Ok header
+  pub placed : slice_get (placed_headers file) k ≡ Some (header_at file k p header)
+
+-- the fault of the first n bytes of an accepted file of more bytes
+abbrev pub cut_fault : ℕ → ReadFault
+cut_fault n = if nat_lt n 24 then fault_at n TooShort else fault_at 16 TotalSize

@@ -1,0 +1,49 @@
+//! What holds of every file, beyond what one call answers: each law is a function that does nothing.
+ghost use Rattle.std.specs.Prelude.{◌≡◌, ◌↔◌, ℕ, ◌<◌, List, ◌++◌, length, take, Some};
+ghost use Rattle.std.specs.List.{slice_get};
+ghost use Rattle.igvm_headers.specs.Fixed.{fixed_fields};
+ghost use Rattle.igvm_headers.specs.declared.header.Header.{Header};
+ghost use Rattle.igvm_image.specs.Pieces.{Piece, pieces, cut};
+ghost use Rattle.igvm_image.specs.Split.{Split};
+ghost use Rattle.igvm_image.specs.Reading.{fault_of};
+ghost use Rattle.igvm_image.specs.Headers.{IsAccepted, pieces_of, placed_headers};
+ghost use Rattle.igvm_image.specs.Laws.{Spells, cut_fault};
+ghost use Rattle.igvm_image.specs.FirstFault.{KeepsFileRules, KeepsHeaderRules, IsFirstFault};
+ghost use Rattle.igvm_headers.specs.declared.fault.ReadFault.{ReadFault};
+
+/// A section is headers in a row and a rest in exactly one way, the one that the reader finds.
+pub fn one_split()
+    ensures found { (s : List ℕ) → Split s (pieces s) (cut s) }
+    ensures one { (s rest : List ℕ) (ps : List Piece) → Split s ps rest
+        → (ps ≡ pieces s) × (rest ≡ cut s) }
+{}
+
+/// Every piece of an accepted file is a header, numbered from 0, at its place, with its data.
+pub fn headers_are_the_pieces()
+    ensures as_many { (file : List ℕ) → IsAccepted file
+        → length (placed_headers file) ≡ length (pieces_of file) }
+    ensures each { (file : List ℕ) (k : ℕ) (p : Piece) → IsAccepted file
+        → slice_get (pieces_of file) k ≡ Some p → (header : Header) × Spells file k p header }
+{}
+
+/// The fault of a file that keeps the rules on the whole file: that of the first header that breaks a rule,
+/// else what is left behind the headers, else the lack of a platform. There is none exactly where all is kept.
+pub fn first_fault()
+    ensures fault { (file : List ℕ) (e : ReadFault) → KeepsFileRules file
+        → ((fault_of file ≡ Some e) ↔ IsFirstFault file e) }
+    ensures none { (file : List ℕ) → KeepsFileRules file
+        → (IsAccepted file ↔ ((headers : List Header) × KeepsHeaderRules file headers)) }
+{}
+
+/// An accepted file that is cut below its total size is refused, as too short where the fixed header is cut.
+pub fn truncation()
+    ensures { (file : List ℕ) (n : ℕ) → IsAccepted file → n < (fixed_fields file).total
+        → fault_of (take n file) ≡ Some (cut_fault n) }
+{}
+
+/// Bytes behind an accepted file change neither that nor its headers and their data.
+pub fn trailing_bytes()
+    ensures accepted { (file more : List ℕ) → IsAccepted file → IsAccepted (file ++ more) }
+    ensures headers { (file more : List ℕ) → IsAccepted file
+        → placed_headers (file ++ more) ≡ placed_headers file }
+{}

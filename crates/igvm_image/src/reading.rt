@@ -1,0 +1,150 @@
+//! The reader: the rules of docs/FORMAT.md in their order.
+ghost use Rattle.std.specs.Prelude.{◌≡◌, ◌<◌, ◌≤◌, ◌+◌, ◌^◌, [], length, None, Some, Ok, IfOk, IfErr, OnOk, ◌++◌, replicate, take};
+ghost use Rattle.igvm_headers.specs.Fixed.{fixed_form};
+ghost use Rattle.igvm_headers.specs.Checksum.{crc};
+ghost use Rattle.igvm_image.specs.Rules.{seen_of};
+ghost use Rattle.igvm_image.specs.Reading.{what_of, judged, section_fault, section_of, checked_bytes, fields_fault, fault_of};
+ghost use Rattle.igvm_image.specs.Headers.{decoded};
+ghost use Rattle.igvm_image.specs.Pieces.{pieces};
+ghost use Rattle.igvm_image.specs.PieceView.{piece_view};
+
+use crate::piece::{Piece, split_piece};
+use crate::table::Table;
+use igvm_headers::{
+    FixedHeader, Header, HeaderFault, ReadFault, ReadWhat, crc_begin, crc_end, crc_more,
+    decode_header, read_fixed,
+};
+
+/// What the headers of an accepted section are to a view.
+#[derive(Drop)]
+pub(crate) struct Contents {
+    pub table: Table,
+    pub count: u32,
+}
+
+/// A header's fault as the reader answers it.
+fn what_of(fault: HeaderFault) -> ReadWhat
+    ensures { result ≡ what_of fault }
+{
+    match fault {
+        HeaderFault::UnknownType { kind } => ReadWhat::UnknownType { kind },
+        HeaderFault::Length => ReadWhat::Length,
+        HeaderFault::Flags { bit } => ReadWhat::Flags { bit },
+        HeaderFault::DataType => ReadWhat::DataType,
+        HeaderFault::PlatformType => ReadWhat::PlatformType,
+    }
+}
+
+/// A header behind those of a table, or the first rule that it breaks.
+#[tactic(auto, unfolding(crate::specs::Reading::judged))]
+fn judged(table: &Table, total: u32, piece: &Piece<'_>) -> Result<Header, ReadWhat>
+    requires pages { table.now.pages ≤ 4194304 }
+    requires size { length piece.now.content.now < 2 ^ 32 }
+    ensures { result ≡ judged total table.now (piece_view piece.now).0 }
+{
+    let header = match decode_header(piece.kind, piece.content) {
+        Ok(header) => header,
+        Err(fault) => return Err(what_of(fault)),
+    };
+    match table.rule_fault(total, &header) {
+        None => Ok(header),
+        Some(what) => Err(what),
+    }
+}
+
+/// The first rule that fails on the fixed header's fields: the total size, the section, the checksum.
+fn fields_fault(file: &[u8], fixed: &FixedHeader) -> Option<ReadFault>
+    requires { 24 ≤ length file.now }
+    ensures { result ≡ fields_fault file.now fixed.now }
+{
+    if fixed.total < 24 || file.len() < fixed.total as usize {
+        let what = ReadWhat::TotalSize;
+        return Some(ReadFault { at: 16, what });
+    }
+    let end = u64::from(fixed.var_offset) + u64::from(fixed.var_size);
+    if fixed.var_offset < 24 || u64::from(fixed.total) < end {
+        let what = ReadWhat::Section;
+        return Some(ReadFault { at: 8, what });
+    }
+    if checksum(&file[..20], section_of(file, fixed)) != fixed.checksum {
+        let what = ReadWhat::Checksum;
+        return Some(ReadFault { at: 20, what });
+    }
+    None
+}
+
+/// The variable header section.
+pub(crate) fn section_of<'a>(file: &'a [u8], fixed: &FixedHeader) -> &'a [u8]
+    requires { fixed.now.var_offset + fixed.now.var_size ≤ length file.now }
+    ensures value { result.now ≡ section_of file.now fixed.now }
+    ensures size { length result.now ≡ fixed.now.var_size }
+{
+    let rest = &file[fixed.var_offset as usize..];
+    &rest[..fixed.var_size as usize]
+}
+
+/// The file up to its total size: what lies behind is not read.
+pub(crate) fn body_of<'a>(file: &'a [u8], fixed: &FixedHeader) -> &'a [u8]
+    requires { fixed.now.total ≤ length file.now }
+    ensures { result.now ≡ take fixed.now.total file.now }
+{
+    &file[..fixed.total as usize]
+}
+
+/// The checksum of the fixed header's first 20 bytes, zeros for the checksum, and the section.
+fn checksum(fixed: &[u8], section: &[u8]) -> u32
+    ensures { result ≡ crc (fixed.now ++ replicate 4 0 ++ section.now) }
+{
+    let state = crc_more(crc_begin(), fixed);
+    let state = crc_more(state, &[0; 4]);
+    crc_end(crc_more(state, section))
+}
+
+/// Judges the headers of a section that stands at the file offset `start`, in a file of this total size.
+pub(crate) fn read_section(section: &[u8], start: u32, total: u32) -> Result<Contents, ReadFault>
+    requires { start + length section.now ≤ total }
+    ensures accepted { OnOk result (section_fault total start section.now ≡ None) }
+    ensures seen { IfOk result (λ c. c.table ≡ seen_of (decoded (pieces section.now))) }
+    ensures count { IfOk result (λ c. c.count ≡ length (decoded (pieces section.now))) }
+    ensures fault { IfErr result (λ e. section_fault total start section.now ≡ Some e) }
+{
+    let mut table = Table::new();
+    let mut count = 0;
+    let mut rest = section;
+    'headers: while let Some(piece) = split_piece(rest) {
+        let at = start + (section.len() - rest.len()) as u32;
+        let header = match judged(&table, total, &piece) {
+            Ok(header) => header,
+            Err(what) => return Err(ReadFault { at, what }),
+        };
+        table.push(&header);
+        count += 1;
+        rest = piece.rest;
+    }
+    if !rest.is_empty() {
+        let at = start + (section.len() - rest.len()) as u32;
+        let what = ReadWhat::HeaderCut;
+        return Err(ReadFault { at, what });
+    }
+    if table.platforms().count() == 0 {
+        let what = ReadWhat::NoPlatform;
+        return Err(ReadFault { at: start, what });
+    }
+    Ok(Contents { table, count })
+}
+
+/// The fixed header of a file that keeps the rules on the whole file, or the first that it breaks.
+#[tactic(auto, unfolding(crate::specs::Reading::fault_of, igvm_headers::specs::Fixed::fixed_form))]
+pub(crate) fn check_file(file: &[u8]) -> Result<FixedHeader, ReadFault>
+    ensures fields { IfOk result (λ fixed. fixed_form file.now ≡ Ok fixed) }
+    ensures kept { IfOk result (λ fixed. fields_fault file.now fixed ≡ None) }
+    ensures section { IfOk result (λ fixed. fixed.var_offset + fixed.var_size ≤ fixed.total) }
+    ensures total { IfOk result (λ fixed. fixed.total ≤ length file.now) }
+    ensures fault { IfErr result (λ e. fault_of file.now ≡ Some e) }
+{
+    let fixed = read_fixed(file)?;
+    match fields_fault(file, &fixed) {
+        None => Ok(fixed),
+        Some(fault) => Err(fault),
+    }
+}

@@ -1,0 +1,10 @@
+pub use Rattle.igvm_headers.specs.Causes
+pub mod Files
+pub mod Outputs
+pub mod Whole
+pub mod Script
+pub mod Poured
+pub mod Kept
+pub mod Shelved
+pub mod Streams
+pub mod Made

@@ -1,0 +1,11 @@
+pub mod Codes
+pub mod Words
+pub mod Texts
+pub mod JobView
+pub mod Outcome
+pub mod Clauses
+pub mod Refusals
+pub use Rattle.igvm_headers.specs.Causes
+pub use Rattle.igvm_outside.specs.Files
+pub use Rattle.igvm_outside.specs.Outputs
+pub use Rattle.igvm_measure.specs.Digests

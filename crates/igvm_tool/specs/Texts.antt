@@ -1,0 +1,76 @@
+-- The texts that the program prints. Each line ends with a newline.
+use Rattle.std.specs.Prelude.{ℕ, false, List, [], ◌∷◌, ◌++◌, codes}
+use Rattle.igvm_headers.specs.declared.fault.ReadFault.{ReadFault}
+use Rattle.igvm_headers.specs.declared.fault.ReadWhat.{ReadWhat}
+use Rattle.igvm_headers.specs.declared.fault.ReadWhat.TheVariants.{TooShort, Magic, Version, TotalSize, Section, Checksum, HeaderCut, UnknownType, Length, Flags, DataType, PlatformType, Order, Mask, Align, AreaLimit, AreaRepeated, AreaUnknown, AreaSize, Wrap, DataOutside, TooManyPages, NoPlatform}
+use Rattle.std.specs.Fmt.{decimal, format_spec, padded_integral, digits}
+use Rattle.hex.specs.Hex.{encode_lower}
+
+abbrev pub line : List ℕ → List ℕ
+line text = text ++ 10 ∷ []
+
+-- a number of 32 bits as 8 lower-case hexadecimal digits
+abbrev pub eight_digits : ℕ → List ℕ
+eight_digits n = padded_integral (format_spec 32 0 4 8 18446744073709551615) false [] (digits 16 false n)
+
+-- the words for a rule, before the number that two of them have
+abbrev pub rule_words : ReadWhat → List ℕ
+rule_words TooShort = codes "too short"
+rule_words Magic = codes "magic"
+rule_words Version = codes "version"
+rule_words TotalSize = codes "total size"
+rule_words Section = codes "section"
+rule_words Checksum = codes "checksum"
+rule_words HeaderCut = codes "header cut"
+rule_words (UnknownType kind) = codes "unknown type "
+rule_words Length = codes "length"
+rule_words (Flags bit) = codes "flag bit "
+rule_words DataType = codes "data type"
+rule_words PlatformType = codes "platform type"
+rule_words Order = codes "order"
+rule_words Mask = codes "mask"
+rule_words Align = codes "alignment"
+rule_words AreaLimit = codes "too many areas"
+rule_words AreaRepeated = codes "area repeated"
+rule_words AreaUnknown = codes "area unknown"
+rule_words AreaSize = codes "area size"
+rule_words Wrap = codes "address wraps"
+rule_words DataOutside = codes "data outside"
+rule_words TooManyPages = codes "too many pages"
+rule_words NoPlatform = codes "no platform"
+
+-- the number of a rule that has one
+abbrev pub rule_number : ReadWhat → List ℕ
+rule_number (UnknownType kind) = eight_digits kind
+rule_number (Flags bit) = decimal bit
+rule_number _ = []
+
+abbrev pub what_text : ReadWhat → List ℕ
+what_text what = rule_words what ++ rule_number what
+
+-- a file that breaks a rule of the reader
+abbrev pub fault_text : ReadFault → List ℕ
+fault_text fault =
+    codes "igvm: file refused at " ++ (decimal fault.at ++ (codes ": " ++ (what_text fault.what ++ 10 ∷ [])))
+
+abbrev pub usage_text : List ℕ
+usage_text = line (codes "usage: igvm measure FILE --platform P") ++ line (codes "P is snp")
+
+abbrev pub shelf_text : List ℕ
+shelf_text = line (codes "igvm: outside fault: shelf")
+
+abbrev pub output_text : List ℕ
+output_text = line (codes "igvm: outside fault: output")
+
+abbrev pub memory_text : List ℕ
+memory_text = line (codes "igvm: want of memory")
+
+abbrev pub no_platform_text : List ℕ
+no_platform_text = line (codes "igvm: no platform snp")
+
+abbrev pub long_file_text : List ℕ
+long_file_text = line (codes "igvm: limit: file")
+
+-- a digest's 96 digits
+abbrev pub digest_text : List ℕ → List ℕ
+digest_text digest = line (encode_lower digest)

@@ -1,0 +1,48 @@
+//! Measures IGVM images: docs/PROGRAM.md.
+#![tactic(auto)]
+
+mod job;
+mod measuring;
+mod refusal;
+mod running;
+mod status;
+#[cfg(test)]
+mod tests;
+mod texts;
+mod words;
+
+use igvm_headers::Memory;
+use igvm_outside::{StdShelf, StdSink};
+use running::run;
+use status::Status;
+use std::process::ExitCode;
+use std::{env, io};
+use words::Words;
+
+/// The words behind the program's name. Where one is not text there are none, which is usage.
+fn given_words(rt: HostRuntime) -> Result<Words, Memory> {
+    let mut words = Words::new(rt.alloc());
+    let given = match env::args(&rt) {
+        Ok(given) => given,
+        Err(error) if error.kind() == io::ErrorKind::OutOfMemory => return Err(Memory),
+        Err(_) => return Ok(words),
+    };
+    'words: for word in given.skip(1) {
+        words.push(word.as_str())?;
+    }
+    Ok(words)
+}
+
+fn status_of(rt: HostRuntime) -> Status {
+    let Ok(words) = given_words(rt) else {
+        return Status::Memory;
+    };
+    let mut shelf = StdShelf::new(rt);
+    let mut out = StdSink::output(rt);
+    let mut err = StdSink::error(rt);
+    run(rt.alloc(), &words, &mut shelf, &mut out, &mut err)
+}
+
+fn main(rt: HostRuntime) -> ExitCode {
+    ExitCode::from(status_of(rt).code())
+}

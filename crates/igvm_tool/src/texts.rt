@@ -1,0 +1,70 @@
+//! The texts of docs/PROGRAM.md.
+ghost use Rattle.std.specs.Prelude.{◌≡◌, IfOk, string_bytes, length};
+ghost use Rattle.igvm_tool.specs.Texts.{rule_words, what_text, fault_text, digest_text};
+
+use igvm_headers::{Digest, ReadFault, ReadWhat};
+use std::alloc::{AllocError, Global};
+
+/// How the program is used.
+pub const USAGE: &str = "usage: igvm measure FILE --platform P\nP is snp\n";
+
+/// The words for a rule, before the number that two of them have.
+fn rule_words(what: ReadWhat) -> &'static str
+    ensures { result.now ≡ rule_words what }
+{
+    match what {
+        ReadWhat::TooShort => "too short",
+        ReadWhat::Magic => "magic",
+        ReadWhat::Version => "version",
+        ReadWhat::TotalSize => "total size",
+        ReadWhat::Section => "section",
+        ReadWhat::Checksum => "checksum",
+        ReadWhat::HeaderCut => "header cut",
+        ReadWhat::Length => "length",
+        ReadWhat::DataType => "data type",
+        ReadWhat::PlatformType => "platform type",
+        ReadWhat::Order => "order",
+        ReadWhat::Mask => "mask",
+        ReadWhat::Align => "alignment",
+        ReadWhat::AreaLimit => "too many areas",
+        ReadWhat::AreaRepeated => "area repeated",
+        ReadWhat::AreaUnknown => "area unknown",
+        ReadWhat::AreaSize => "area size",
+        ReadWhat::Wrap => "address wraps",
+        ReadWhat::DataOutside => "data outside",
+        ReadWhat::TooManyPages => "too many pages",
+        ReadWhat::NoPlatform => "no platform",
+        ReadWhat::UnknownType { .. } => "unknown type ",
+        ReadWhat::Flags { .. } => "flag bit ",
+    }
+}
+
+/// The text of a rule.
+pub fn what_text(alloc: Global, what: ReadWhat) -> Result<String, AllocError>
+    ensures { IfOk result (λ text. string_bytes text ≡ what_text what) }
+{
+    let words = rule_words(what);
+    match what {
+        ReadWhat::UnknownType { kind } => format!(in alloc; "{words}{kind:08x}"),
+        ReadWhat::Flags { bit } => format!(in alloc; "{words}{bit}"),
+        _ => String::from_str(alloc, words),
+    }
+}
+
+/// The line that says which rule a file breaks, and where.
+pub fn fault_text(alloc: Global, fault: ReadFault) -> Result<String, AllocError>
+    ensures { IfOk result (λ text. string_bytes text ≡ fault_text fault) }
+{
+    let at = fault.at;
+    let what = what_text(alloc, fault.what)?;
+    format!(in alloc; "igvm: file refused at {at}: {what}\n")
+}
+
+/// The line of a digest.
+pub fn digest_text(digest: &Digest) -> [u8; 97]
+    ensures { result ≡ digest_text digest.now }
+{
+    let mut line = [b'\n'; 97];
+    let _ = hex::encode_to_slice(digest.bytes(), &mut line[..96]);
+    line
+}
