@@ -13,6 +13,7 @@ mod words;
 
 use igvm_headers::Memory;
 use igvm_outside::{StdShelf, StdSink};
+use refusal::{Refusal, refuse};
 use running::run;
 use status::Status;
 use std::process::ExitCode;
@@ -34,12 +35,13 @@ fn given_words(rt: HostRuntime) -> Result<Words, Memory> {
 }
 
 fn status_of(rt: HostRuntime) -> Status {
-    let Ok(words) = given_words(rt) else {
-        return Status::Memory;
+    let mut err = StdSink::error(rt);
+    let words = match given_words(rt) {
+        Ok(words) => words,
+        Err(Memory) => return refuse(&mut err, &Refusal::Memory),
     };
     let mut shelf = StdShelf::new(rt);
     let mut out = StdSink::output(rt);
-    let mut err = StdSink::error(rt);
     run(rt.alloc(), &words, &mut shelf, &mut out, &mut err)
 }
 
