@@ -1,0 +1,6 @@
+pub mod Space
+pub mod Told
+pub mod Slots
+pub mod Calls
+pub use Rattle.igvm_image.specs.Data
+pub use Rattle.igvm_headers.specs.Numbers

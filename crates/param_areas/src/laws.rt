@@ -1,0 +1,30 @@
+//! What holds of every list of calls, each law as the contract of a function that does nothing.
+ghost use Rattle.std.specs.Prelude.{◌≡◌, ◌+◌, ◌*◌, ◌++◌, ◌↔◌, ℕ, List, [], ◌∷◌, Option, Some, None, false, length, sum_by};
+ghost use Rattle.std.specs.Option.{option_map};
+ghost use Rattle.param_areas.specs.Space.{Space, IsNew, IsOpen, bytes_of, size_of_all};
+ghost use Rattle.param_areas.specs.Told.{Told, Shows, told_byte, told_size, told_at};
+ghost use Rattle.param_areas.specs.Calls.{Call, AreInOrder, told_by, told_call, byte_under, content_of, settings_of, told_of};
+
+/// After any calls, each byte of an area is that of the last value set that covers it, else the
+/// declared content's.
+pub fn last_value_stands()
+    ensures byte { (calls : List Call) (area place : ℕ) → AreInOrder [] calls
+        → told_byte (told_by calls) area place
+        ≡ byte_under (content_of area calls) (settings_of area calls) place }
+    ensures told { (calls : List Call) (area : ℕ) → AreInOrder [] calls
+        → told_at (told_by calls) area ≡ option_map (told_of area calls) (content_of area calls) }
+    ensures step { (calls : List Call) (call : Call) → told_by (calls ++ call ∷ []) ≡ told_call (told_by calls) call }
+{}
+
+/// What areas were told says which are new and which open, their sizes, and how many they are.
+pub fn told_is_shown()
+    ensures open { (space : Space) (told : List Told) (area : ℕ) → Shows space told
+        → IsOpen space.areas area ↔ (option_map (λ t. t.taken) (told_at told area) ≡ Some false) }
+    ensures size { (space : Space) (told : List Told) (area : ℕ) → Shows space told
+        → length (bytes_of space.areas area) ≡ told_size (told_at told area) }
+    ensures new { (space : Space) (told : List Told) (area : ℕ) → Shows space told
+        → told_at told area ≡ None → IsNew space.areas area }
+    ensures count { (space : Space) (told : List Told) → Shows space told → length space.areas ≡ length told }
+    ensures all { (space : Space) (told : List Told) → Shows space told
+        → size_of_all space.areas ≡ sum_by (λ t. told_size (Some t)) told }
+{}

@@ -1,0 +1,12 @@
+//! Parameter areas of a load: reserved at once, declared, set in place, lent page by page, and taken.
+#![tactic(auto)]
+
+mod areas;
+mod filling;
+mod laws;
+mod slot;
+#[cfg(test)]
+mod tests;
+
+pub use areas::Areas;
+pub use laws::{last_value_stands, told_is_shown};
