@@ -20,12 +20,16 @@ told_call told (Take area) = told_change told_taken area told
 abbrev pub told_by : List Call → List Told
 told_by calls = fold told_call [] calls
 
--- a value is set in an area that is declared before, and such an area is taken
+-- an area is among these
+abbrev pub IsKnown : List ℕ → ℕ → Type 0
+IsKnown known area = IsSome (find (λ i. i == area) known)
+
+-- values are set in areas that are declared before, and such areas are taken
 abbrev pub AreInOrder : List ℕ → List Call → Type 0
 AreInOrder known [] = Unit {0}
 AreInOrder known (Declare area content ∷ calls) = AreInOrder (area ∷ known) calls
-AreInOrder known (Set area place value ∷ calls) = IsSome (find (λ i. i == area) known) × AreInOrder known calls
-AreInOrder known (Take area ∷ calls) = IsSome (find (λ i. i == area) known) × AreInOrder known calls
+AreInOrder known (Set area place value ∷ calls) = IsKnown known area × AreInOrder known calls
+AreInOrder known (Take area ∷ calls) = IsKnown known area × AreInOrder known calls
 
 -- the content that a call declares for an area
 abbrev pub content_in : ℕ → Call → Option Data
@@ -36,7 +40,8 @@ content_in area (Take of) = None
 -- the value that a call sets in an area
 abbrev pub setting_in : ℕ → Call → Option Setting
 setting_in area (Declare of content) = None
-setting_in area (Set of place value) = if of == area then Some (record { place = place; value = value }) else None
+setting_in area (Set of place value) =
+    if of == area then Some (record { place = place; value = value }) else None
 setting_in area (Take of) = None
 
 -- the first of a list
@@ -65,7 +70,12 @@ is_taken area calls = list_any (takes area) calls
 -- what an area with this content is told by these calls
 abbrev pub told_of : ℕ → List Call → Data → Told
 told_of area calls content =
-    record { index = area; content = content; settings = settings_of area calls; taken = is_taken area calls }
+    record {
+      index = area;
+      content = content;
+      settings = settings_of area calls;
+      taken = is_taken area calls;
+    }
 
 -- the byte of this content under these values, or 0 without content
 abbrev pub byte_under : Option Data → List Setting → ℕ → ℕ

@@ -8,7 +8,8 @@ pub record Area : Type 0 where
   pub bytes : List ℕ
   pub taken : Bool
 
--- the bytes that are reserved for all areas together, and the areas in the order of their declarations
+-- the bytes that are reserved for all areas together, and the areas in the order of their
+-- declarations
 pub record Space : Type 0 where
   pub total : ℕ
   pub areas : List Area
@@ -41,7 +42,8 @@ size_of_all areas = sum_by (λ a. length a.bytes) areas
 -- the first element that passes is changed, and all others stay
 abbrev pub change_first : {X : Type 0} → (X → Bool) → (X → X) → List X → List X
 change_first test change [] = []
-change_first test change (x ∷ xs) = if test x then change x ∷ xs else x ∷ change_first test change xs
+change_first test change (x ∷ xs) =
+    if test x then change x ∷ xs else x ∷ change_first test change xs
 
 -- bytes with a value in place of those from a place on
 unfoldable pub written : ℕ → List ℕ → List ℕ → List ℕ
@@ -63,4 +65,5 @@ with_change change area space =
 -- one more area, behind the others
 abbrev pub with_area : Space → ℕ → List ℕ → Space
 with_area space area bytes =
-    record space { areas = space.areas ++ (record { index = area; bytes = bytes; taken = false }) ∷ [] }
+    let added : Area = record { index = area; bytes = bytes; taken = false } in
+    record space { areas = space.areas ++ added ∷ [] }

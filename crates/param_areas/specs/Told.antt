@@ -1,5 +1,5 @@
--- What areas were told: the declared content and the values set since. Each byte is that of the last
--- value that covers its place, else the declared content's.
+-- What areas were told: the declared content and the values set since. Each byte is that of the
+-- last value that covers its place, else the declared content's.
 use Rattle.std.specs.Prelude.{ℕ, ◌+◌, ◌-◌, ◌*◌, ◌/◌, ◌%◌, ◌≡◌, ◌&&◌, ◌==◌, List, [], ◌∷◌, ◌++◌, Bool, true, false, Option, Some, None, length, slice_index, map, find, reverse, nat_lt, nat_le}
 use Rattle.std.specs.List.{range_with_len}
 use Rattle.igvm_image.specs.Data.{Data, data_page}
@@ -10,7 +10,7 @@ pub record Setting : Type 0 where
   pub place : ℕ
   pub value : List ℕ
 
--- an area's index, its declared content, the values set since in their order, and whether it is taken
+-- an area's index, its declared content, the values set since in order, and whether it is taken
 pub record Told : Type 0 where
   pub index : ℕ
   pub content : Data
@@ -19,7 +19,8 @@ pub record Told : Type 0 where
 
 -- a value covers a place
 abbrev pub covers : ℕ → Setting → Bool
-covers place setting = nat_le setting.place place && nat_lt place (setting.place + length setting.value)
+covers place setting =
+    nat_le setting.place place && nat_lt place (setting.place + length setting.value)
 
 -- the last of the values that covers a place
 abbrev pub last_over : ℕ → List Setting → Option Setting
@@ -34,13 +35,15 @@ byte_or byte place (Some setting) = slice_index setting.value (place - setting.p
 unfoldable pub content_byte : Data → ℕ → ℕ
 content_byte content place = slice_index (data_page content (place / 4096)) (place % 4096)
 
--- the byte at a place of an area: that of the last value that covers it, else the declared content's
+-- the byte at a place: that of the last value that covers it, else the declared content's
 unfoldable pub area_byte : Data → List Setting → ℕ → ℕ
-area_byte content settings place = byte_or (content_byte content place) place (last_over place settings)
+area_byte content settings place =
+    byte_or (content_byte content place) place (last_over place settings)
 
 -- all bytes of an area, in order
 unfoldable pub area_bytes : Data → List Setting → List ℕ
-area_bytes content settings = map (area_byte content settings) (range_with_len 0 (4096 * content.pages))
+area_bytes content settings =
+    map (area_byte content settings) (range_with_len 0 (4096 * content.pages))
 
 -- all bytes of the content, page by page
 unfoldable pub content_bytes : Data → List ℕ

@@ -11,8 +11,8 @@ use igvm_image::DataView;
 use std::alloc::Global;
 use std::marker::Model;
 
-/// At most 256 parameter areas in one buffer. Each has the bytes of its declared content, and over them
-/// the values that were set since; it is open until it is taken.
+/// At most 256 parameter areas in one buffer. Each has the bytes of its declared content, and over
+/// them the values that were set since; it is open until it is taken.
 #[derive(Drop)]
 pub struct Areas {
     bytes: Vec<u8>,
@@ -22,16 +22,16 @@ pub struct Areas {
 }
 
 impl Model for Areas {
-    ghost use Rattle.std.specs.Prelude.{◌≤◌, map, take, vec_len};
+    ghost use Rattle.std.specs.Prelude.{take, vec_len};
     ghost use Rattle.param_areas.specs.Space.{Space};
 
     ghost Value = { Space };
 
-    ghost use Rattle.param_areas.specs.Slots.{area_in, LaidOut};
+    ghost use Rattle.param_areas.specs.Slots.{space_in, AreInBuffer};
 
-    ghost view = { λ s. record { total = vec_len s.bytes; areas = map (area_in s.bytes.items) (take s.count s.slots) } };
+    ghost view = { λ s. space_in (vec_len s.bytes) s.bytes.items (take s.count s.slots) };
 
-    ghost invariant = { λ s. (s.count ≤ 256) × (s.used ≤ vec_len s.bytes) × (vec_len s.bytes ≤ 67108864) × LaidOut 0 (take s.count s.slots) s.used };
+    ghost invariant = { λ s. AreInBuffer (vec_len s.bytes) s.count s.used (take s.count s.slots) };
 }
 
 impl Areas {

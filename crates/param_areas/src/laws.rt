@@ -13,7 +13,8 @@ pub fn last_value_stands()
         ≡ byte_under (content_of area calls) (settings_of area calls) place }
     ensures told { (calls : List Call) (area : ℕ) → AreInOrder [] calls
         → told_at (told_by calls) area ≡ option_map (told_of area calls) (content_of area calls) }
-    ensures step { (calls : List Call) (call : Call) → told_by (calls ++ call ∷ []) ≡ told_call (told_by calls) call }
+    ensures step { (calls : List Call) (c : Call)
+        → told_by (calls ++ c ∷ []) ≡ told_call (told_by calls) c }
 {}
 
 /// What areas were told says which are new and which open, their sizes, and how many they are.
@@ -24,7 +25,8 @@ pub fn told_is_shown()
         → length (bytes_of space.areas area) ≡ told_size (told_at told area) }
     ensures new { (space : Space) (told : List Told) (area : ℕ) → Shows space told
         → told_at told area ≡ None → IsNew space.areas area }
-    ensures count { (space : Space) (told : List Told) → Shows space told → length space.areas ≡ length told }
+    ensures count { (space : Space) (told : List Told) → Shows space told
+        → length space.areas ≡ length told }
     ensures all { (space : Space) (told : List Told) → Shows space told
         → size_of_all space.areas ≡ sum_by (λ t. told_size (Some t)) told }
 {}

@@ -1,4 +1,4 @@
-//! Parameter areas of a load: reserved at once, declared, set in place, lent page by page, and taken.
+//! Parameter areas of a load: reserved at once, declared, set, lent page by page, and taken.
 #![tactic(auto)]
 
 mod areas;

@@ -1,8 +1,10 @@
 //! Where the parameter areas stand in the buffer (`igvm_defs`, IGVM_VHS_PARAMETER_AREA).
-ghost use Rattle.std.specs.Prelude.{◌≡◌, ◌==◌, true, find, IsSome};
+ghost use Rattle.std.specs.Prelude.{◌≡◌, ◌==◌, find, IsSome};
 ghost use Rattle.param_areas.specs.Space.{change_first};
+ghost use Rattle.param_areas.specs.Slots.{marked};
 
-/// An area's index, the place of its first byte in the buffer, its size in bytes, and whether it is taken.
+/// An area's index, the place of its first byte in the buffer, its size in bytes, and whether it is
+/// taken.
 #[derive(Clone, Copy)]
 pub(crate) struct Slot {
     pub(crate) area: u32,
@@ -26,7 +28,7 @@ pub(crate) fn slot_of(slots: &[Slot], area: u32) -> Slot
 
 /// Marks an area as taken.
 pub(crate) fn mark_taken(slots: &mut [Slot], area: u32)
-    ensures { slots.new ≡ change_first (λ s. s.area == area) (λ s. record s { taken = true }) slots.old }
+    ensures { slots.new ≡ change_first (λ s. s.area == area) marked slots.old }
 {
     'slots: for i in 0..slots.len() {
         if slots[i].area == area {

@@ -10,22 +10,22 @@ slot_of-slot-requires c =
 
 pub overflow_mul-place : goal.overflow_mul-place
 overflow_mul-place c =
-    let room = part_within c.self.inside.bytes.items (take c.self.inside.count c.self.inside.slots) c.args.self.now _ c.args.area c.self.inside.used (4096 * c.args.k + 4096) c.slot_of-slot.result c.slot_of-slot.ensures c.self.invariant.3 (omega (arith, c.self.inside.bytes.ok.0)) c.self.view_is c.requires.within in
+    let room = part_within c.self.inside.bytes.items (take c.self.inside.count c.self.inside.slots) c.args.self.now _ c.args.area c.self.inside.used (4096 * c.args.k + 4096) c.slot_of-slot.result c.slot_of-slot.ensures c.self.invariant.laid (omega (arith, c.self.inside.bytes.ok.0)) c.self.view_is c.requires.within in
     omega (arith, room.0, room.1, c.self.inside.bytes.ok.0)
 
 pub overflow_add-place : goal.overflow_add-place
 overflow_add-place c =
-    let room = part_within c.self.inside.bytes.items (take c.self.inside.count c.self.inside.slots) c.args.self.now _ c.args.area c.self.inside.used (4096 * c.args.k + 4096) c.slot_of-slot.result c.slot_of-slot.ensures c.self.invariant.3 (omega (arith, c.self.inside.bytes.ok.0)) c.self.view_is c.requires.within in
+    let room = part_within c.self.inside.bytes.items (take c.self.inside.count c.self.inside.slots) c.args.self.now _ c.args.area c.self.inside.used (4096 * c.args.k + 4096) c.slot_of-slot.result c.slot_of-slot.ensures c.self.invariant.laid (omega (arith, c.self.inside.bytes.ok.0)) c.self.view_is c.requires.within in
     omega (arith, room.0, room.1, c.self.inside.bytes.ok.0)
 
 pub overflow_add-result : goal.overflow_add-result
 overflow_add-result c =
-    let room = part_within c.self.inside.bytes.items (take c.self.inside.count c.self.inside.slots) c.args.self.now _ c.args.area c.self.inside.used (4096 * c.args.k + 4096) c.slot_of-slot.result c.slot_of-slot.ensures c.self.invariant.3 (omega (arith, c.self.inside.bytes.ok.0)) c.self.view_is c.requires.within in
+    let room = part_within c.self.inside.bytes.items (take c.self.inside.count c.self.inside.slots) c.args.self.now _ c.args.area c.self.inside.used (4096 * c.args.k + 4096) c.slot_of-slot.result c.slot_of-slot.ensures c.self.invariant.laid (omega (arith, c.self.inside.bytes.ok.0)) c.self.view_is c.requires.within in
     omega (arith, room.0, room.1, c.self.inside.bytes.ok.0)
 
 pub slice_bounds-result-end : goal.slice_bounds-result-end
 slice_bounds-result-end c =
-    let room = part_within c.self.inside.bytes.items (take c.self.inside.count c.self.inside.slots) c.args.self.now _ c.args.area c.self.inside.used (4096 * c.args.k + 4096) c.slot_of-slot.result c.slot_of-slot.ensures c.self.invariant.3 (omega (arith, c.self.inside.bytes.ok.0)) c.self.view_is c.requires.within in
+    let room = part_within c.self.inside.bytes.items (take c.self.inside.count c.self.inside.slots) c.args.self.now _ c.args.area c.self.inside.used (4096 * c.args.k + 4096) c.slot_of-slot.result c.slot_of-slot.ensures c.self.invariant.laid (omega (arith, c.self.inside.bytes.ok.0)) c.self.view_is c.requires.within in
     omega (arith, room.0, room.1, c.self.inside.bytes.ok.0, ap length c.as_slice.ensures.value)
 
 pub returns-clause-bytes : goal.returns-clause-bytes
@@ -33,7 +33,7 @@ returns-clause-bytes c =
     let size : c.slot_of-slot.result.start + 4096 * c.args.k + 4096 - (c.slot_of-slot.result.start + 4096 * c.args.k) ≡ 4096 = omega arith in
     ap (λ n. take n (drop (c.slot_of-slot.result.start + 4096 * c.args.k) c.as_slice.result.now)) size
     ∙ ap (λ l. slice l (c.slot_of-slot.result.start + 4096 * c.args.k) 4096) c.as_slice.ensures.value
-    ∙ lent_bytes c.self.inside.bytes.items (take c.self.inside.count c.self.inside.slots) c.args.self.now _ c.args.area c.self.inside.used (4096 * c.args.k) 4096 c.slot_of-slot.result c.slot_of-slot.ensures c.self.invariant.3 (omega (arith, c.self.inside.bytes.ok.0)) c.self.view_is c.requires.within
+    ∙ lent_bytes c.self.inside.bytes.items (take c.self.inside.count c.self.inside.slots) c.args.self.now _ c.args.area c.self.inside.used (4096 * c.args.k) 4096 c.slot_of-slot.result c.slot_of-slot.ensures c.self.invariant.laid (omega (arith, c.self.inside.bytes.ok.0)) c.self.view_is c.requires.within
 
 pub returns-clause-told : goal.returns-clause-told
 returns-clause-told c =

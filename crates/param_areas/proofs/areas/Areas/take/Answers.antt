@@ -15,7 +15,7 @@ pub invariant_of-self : goal.invariant_of-self
 invariant_of-self c =
     let after = marked c.self.inside.slots c.mark_taken.new.slots (post_of 0 c.self.inside.count c.self.inside.slots) c.self.inside.count c.args.area (omega arith) c.mark_taken.auto.slots c.mark_taken.ensures in
     let P : List Slot → Type 0 = λ slots. LaidOut 0 slots c.self.inside.used in
-    (omega arith, omega arith, omega arith, subst P (sym after) (laid_taken _ (take c.self.inside.count c.self.inside.slots) 0 c.self.inside.used c.self.invariant.3))
+    record { few = omega arith; within = omega arith; small = omega arith; laid = subst P (sym after) (laid_taken _ (take c.self.inside.count c.self.inside.slots) 0 c.self.inside.used c.self.invariant.laid) }
 
 pub returns-clause-taken : goal.returns-clause-taken
 returns-clause-taken c =
