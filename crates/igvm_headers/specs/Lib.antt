@@ -6,4 +6,6 @@ pub mod Names
 pub mod Fixed
 pub mod Records
 pub mod Kinds
+pub mod Spelling
+pub mod Spellable
 pub use Rattle.byteorder.specs.Endian

@@ -2,6 +2,7 @@
 ghost use Rattle.std.specs.Prelude.{◌≡◌};
 ghost use Rattle.igvm_headers.specs.Names.{page_kind_text};
 ghost use Rattle.igvm_headers.specs.Records.{page_kind_of};
+ghost use Rattle.igvm_headers.specs.Spelling.{data_type};
 
 /// What a page of an image is for.
 #[derive(Clone, Copy, Debug, PartialEq, Eq)]
@@ -38,6 +39,18 @@ pub(crate) fn page_kind_of_data_type(data_type: u16) -> Option<PageKind>
         2 => Some(PageKind::Cpuid),
         3 => Some(PageKind::CpuidXf),
         _ => None,
+    }
+}
+
+/// The data type of a kind of page.
+pub(crate) fn page_data_type(kind: PageKind) -> u16
+    ensures { result ≡ data_type kind }
+{
+    match kind {
+        PageKind::Normal => 0,
+        PageKind::Secrets => 1,
+        PageKind::Cpuid => 2,
+        PageKind::CpuidXf => 3,
     }
 }
 

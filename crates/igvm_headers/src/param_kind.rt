@@ -2,6 +2,7 @@
 ghost use Rattle.std.specs.Prelude.{◌≡◌};
 ghost use Rattle.igvm_headers.specs.Names.{param_text};
 ghost use Rattle.igvm_headers.specs.Records.{param_kind_of};
+ghost use Rattle.igvm_headers.specs.Spelling.{param_type};
 
 /// A kind of value that a host writes into a parameter area.
 #[derive(Clone, Copy, Debug, PartialEq, Eq)]
@@ -52,6 +53,24 @@ pub(crate) fn param_kind_of_type(kind: u32) -> Option<ParamKind>
         0x312 => Some(ParamKind::DeviceTree),
         0x313 => Some(ParamKind::EnvironmentInfo),
         _ => None,
+    }
+}
+
+/// The type of a parameter's header.
+pub(crate) fn param_header_type(kind: ParamKind) -> u32
+    ensures { result ≡ param_type kind }
+{
+    match kind {
+        ParamKind::VpCount => 0x307,
+        ParamKind::Srat => 0x308,
+        ParamKind::Madt => 0x309,
+        ParamKind::MmioRanges => 0x30A,
+        ParamKind::MemoryMap => 0x30C,
+        ParamKind::CommandLine => 0x30E,
+        ParamKind::Slit => 0x30F,
+        ParamKind::Pptt => 0x310,
+        ParamKind::DeviceTree => 0x312,
+        ParamKind::EnvironmentInfo => 0x313,
     }
 }
 

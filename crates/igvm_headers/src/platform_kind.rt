@@ -1,5 +1,6 @@
 //! Isolation platforms (`igvm_defs`, IgvmPlatformType).
 ghost use Rattle.std.specs.Prelude.{◌≡◌};
+ghost use Rattle.igvm_headers.specs.Kinds.{kind_number};
 ghost use Rattle.igvm_headers.specs.Names.{kind_text};
 ghost use Rattle.igvm_headers.specs.Records.{platform_kind_of};
 
@@ -40,6 +41,20 @@ pub(crate) fn platform_kind_of_number(number: u8) -> Option<PlatformKind>
         4 => Some(PlatformKind::Sev),
         5 => Some(PlatformKind::SevEs),
         _ => None,
+    }
+}
+
+/// The number of a kind's platform type.
+pub(crate) fn platform_number(kind: PlatformKind) -> u8
+    ensures { result ≡ kind_number kind }
+{
+    match kind {
+        PlatformKind::Native => 0,
+        PlatformKind::VsmIsolation => 1,
+        PlatformKind::SevSnp => 2,
+        PlatformKind::Tdx => 3,
+        PlatformKind::Sev => 4,
+        PlatformKind::SevEs => 5,
     }
 }
 
