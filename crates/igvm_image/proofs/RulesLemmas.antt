@@ -2,7 +2,7 @@
 use Rattle.std.proofs.Common.{◌≡◌, ℕ, ◌+◌, List, [], ◌∷◌, ◌++◌, refl, sym, ◌∙◌, ap, append_assoc, append-nil, add_assoc, arith}
 use Rattle.std.proofs.lemmas.List.Sums.{fold_push}
 use Rattle.std.proofs.lemmas.List.Elements.{filter_map-append}
-use Rattle.platform_masks.proofs.PlatformsLemmas.{platforms_of-push}
+use Rattle.platform_masks.specs.PlatformsLaws.{platforms_of-push}
 use Rattle.igvm_headers.specs.declared.header.Header.{Header}
 use Rattle.igvm_image.specs.declared.area_table.AreaEntry.{AreaEntry}
 use Rattle.igvm_image.specs.Areas.{areas_of, area_entry}

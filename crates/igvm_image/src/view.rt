@@ -92,7 +92,7 @@ impl<'a> ImageView<'a> {
     pub fn headers(&self) -> Headers<'a>
         ensures placed { result ≡ placed_headers self.now }
         ensures few { length result < 2 ^ 32 }
-        // Pages and inserted areas end within the address space.
+        // A page lies at a multiple of its size; an inserted area ends within the address space.
         ensures fit { AllByRecursion (λ p. PagesFit (areas_of (headers_of self.now)) p.header) result }
     {
         let section = section_of(self.file, &self.fixed);

@@ -1,3 +1,4 @@
 pub mod Masks
 pub mod Platforms
+pub mod PlatformsLaws
 pub use Rattle.igvm_headers.specs.Kinds

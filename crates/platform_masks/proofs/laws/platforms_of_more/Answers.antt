@@ -1,4 +1,4 @@
-use Rattle.platform_masks.proofs.PlatformsLemmas.{platforms_of-push, platforms_of_none}
+use Rattle.platform_masks.specs.PlatformsLaws.{platforms_of-push, platforms_of_none}
 use Rattle.platform_masks.proofs.laws.platforms_of_more.Goals as goal
 
 pub returns-clause-none : goal.returns-clause-none
