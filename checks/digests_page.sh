@@ -1,6 +1,6 @@
 #!/usr/bin/env bash
-# The worked example of docs/DIGESTS.md: its commands print what stands there, and the program prints its digest.
-# Ends with 77 where a tool of the example is missing.
+# The worked examples of docs/DIGESTS.md: their commands print what stands there, and the program prints their digests.
+# Ends with 77 where a tool of the examples is missing.
 set -u
 
 root=$(dirname -- "$(dirname -- "$(readlink -f -- "${BASH_SOURCE[0]}")")")
@@ -37,8 +37,12 @@ if [ ! -x "$program" ]; then
     echo "digests page: the commands agree; not compared with the program, which isn't built"
     exit 0
 fi
-tail -n 1 wanted >digest
-if ! "$program" measure zero_page.igvm --platform snp | diff digest -; then
+# The first line of 96 digits is what stands for the page's bytes; each example ends with a digest.
+grep -xE '[0-9a-f]{96}' wanted | tail -n +2 >digests
+measure() {
+    "$program" measure "$1" --platform "$2"
+}
+if ! { measure zero_page.igvm snp && measure tdx_page.igvm tdx; } | diff digests -; then
     echo "digests page: the program prints another digest"
     exit 1
 fi

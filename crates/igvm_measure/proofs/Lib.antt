@@ -1,2 +1,3 @@
 pub mod PagesLemmas
 pub mod Measuring
+pub mod TrailingDigests

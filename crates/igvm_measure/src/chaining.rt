@@ -1,4 +1,4 @@
-//! The records of one header, added to a chain (SEV-SNP Firmware ABI, SNP_LAUNCH_UPDATE).
+//! The records of an image, one after the other (SEV-SNP Firmware ABI, SNP_LAUNCH_UPDATE).
 ghost use Rattle.std.specs.Prelude.{◌≡◌, ◌<◌, ◌≤◌, ◌+◌, ◌*◌, ◌^◌, ◌++◌, List, replicate, Some};
 ghost use Rattle.sha2.specs.Sha512.{sha384};
 ghost use Rattle.snp_chain.specs.Chain.{PageRecord, Holds};
@@ -7,33 +7,15 @@ ghost use Rattle.igvm_image.specs.Data.{data_pages};
 ghost use Rattle.igvm_image.specs.Headers.{headers_of};
 ghost use Rattle.igvm_image.specs.PlacedView.{placed_view};
 ghost use Rattle.igvm_image.specs.Fits.{PagesFit};
-ghost use Rattle.igvm_measure.specs.Digests.{gpa_of, area_bytes_of, tagged_records, context_records, snp_header_records};
+ghost use Rattle.igvm_measure.specs.Digests.{tagged_records, context_records, snp_header_records, snp_digest};
 
 use crate::contents::{contents_for, digest_of_page, page_type_of};
-use directive_rules::{page_count, tag_of};
-use igvm_headers::{Digest, Header, Options, PlatformKind, Tag};
+use crate::places::{gpa_of, placed_pages};
+use directive_rules::tag_of;
+use igvm_headers::{Digest, Header, Options, PageView, PlatformKind, Tag};
 use igvm_image::{DataView, ImageView, Placed};
-use snp_chain::{SnpChain, SnpPage};
-
-/// The guest physical address at which a header places pages, and 0 for a header that places none.
-fn gpa_of(header: &Header) -> u64
-    ensures { result ≡ gpa_of header.now }
-{
-    match header {
-        Header::Page { gpa, .. } | Header::Insert { gpa, .. } | Header::Context { gpa, .. } => *gpa,
-        _ => 0,
-    }
-}
-
-/// The size in bytes of the area that a header puts into the guest, and 0 for other headers.
-fn area_bytes_of(view: &ImageView<'_>, header: &Header) -> u64
-    ensures { result ≡ area_bytes_of (areas_of (headers_of view.now)) header.now }
-{
-    match header {
-        Header::Insert { area, .. } => view.area_bytes(*area).unwrap_or(0),
-        _ => 0,
-    }
-}
+use platform_masks::applies;
+use snp_chain::{SnpChain, SnpPage, contents_of};
 
 /// Adds the records of so many pages, from an address on. `zero` is the digest of a page of zeros.
 fn add_pages(
@@ -73,7 +55,8 @@ fn add_context(chain: &mut SnpChain, placed: &Placed<'_>, zero: &Digest)
 }
 
 /// Adds the records of a header of an image. `zero` is the digest of a page of zeros.
-pub(crate) fn add_header(
+#[tactic(auto, unfolding(crate::specs::Digests::snp_header_records))]
+fn add_header(
     chain: &mut SnpChain,
     view: &ImageView<'_>,
     placed: &Placed<'_>,
@@ -90,8 +73,23 @@ pub(crate) fn add_header(
 {
     let header = &placed.header;
     if let Some(tag) = tag_of(header, PlatformKind::SevSnp, options) {
-        let count = page_count(header, area_bytes_of(view, header));
+        let count = placed_pages(view, header);
         add_pages(chain, tag, gpa_of(header), count, &placed.content, zero);
     }
     add_context(chain, placed, zero);
+}
+
+/// The SEV-SNP launch digest of an image for a platform's mask.
+#[tactic(auto, unfolding(crate::specs::Digests::snp_digest))]
+pub(crate) fn snp_digest(view: &ImageView<'_>, mask: u32, options: Options) -> Digest
+    ensures { result ≡ snp_digest view.now mask }
+{
+    let zero = contents_of(PageView::zero());
+    let mut chain = SnpChain::new();
+    'headers: for placed in view.headers() {
+        if applies(&placed.header, mask) {
+            add_header(&mut chain, view, &placed, &zero, options);
+        }
+    }
+    chain.digest()
 }

@@ -3,8 +3,12 @@
 
 mod chaining;
 mod contents;
+mod laws;
 mod measure;
+mod places;
+mod streaming;
 #[cfg(test)]
 mod tests;
 
+pub use laws::trailing_bytes;
 pub use measure::{NoDigest, measure_image};
