@@ -1,0 +1,4 @@
+pub mod Nothing
+pub mod Results
+pub mod Places
+pub mod Progress

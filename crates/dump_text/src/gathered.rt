@@ -1,0 +1,96 @@
+//! Text that is gathered until there is enough of it to be put.
+ghost use Rattle.std.specs.Prelude.{◌≡◌, ℕ, ◌≤◌, ◌+◌, ◌*◌, ◌++◌, List, [], length, take, OnOk, OnErr};
+ghost use Rattle.hex.specs.Hex.{encode_lower};
+ghost use Rattle.igvm_headers.specs.Causes.{HasCause};
+ghost use Rattle.igvm_outside.specs.Outputs.{gained};
+
+use igvm_headers::Failed;
+use igvm_outside::{Sink, put_all};
+use std::marker::Model;
+
+/// The most bytes that are gathered.
+const CAPACITY: usize = 16_384;
+
+/// No line has more bytes.
+const LONGEST: usize = 512;
+
+/// Text that is not put yet. Contracts see its bytes; there is room for 16,384.
+#[derive(Drop)]
+pub(crate) struct Gathered {
+    bytes: [u8; CAPACITY],
+    count: usize,
+}
+
+impl Model for Gathered {
+    ghost use Rattle.std.specs.Prelude.{List, ℕ, ◌≤◌, take};
+
+    ghost Value = { List ℕ };
+
+    ghost view = { λ s. take s.count s.bytes };
+
+    ghost invariant = { λ s. s.count ≤ 16384 };
+}
+
+impl Gathered {
+    /// No text.
+    pub(crate) fn new() -> Gathered
+        ensures { result ≡ [] }
+    {
+        Gathered {
+            bytes: [0; CAPACITY],
+            count: 0,
+        }
+    }
+
+    /// Adds a text.
+    pub(crate) fn push(&mut self, text: &[u8])
+        requires { length self.old + length text.now ≤ 16384 }
+        ensures { self.new ≡ self.old ++ text.now }
+    {
+        let end = self.count + text.len();
+        self.bytes[self.count..end].copy_from_slice(text);
+        self.count = end;
+    }
+
+    /// Adds the digits of some bytes, two a byte.
+    pub(crate) fn push_digits(&mut self, bytes: &[u8])
+        requires { length self.old + 2 * length bytes.now ≤ 16384 }
+        ensures text { self.new ≡ self.old ++ encode_lower bytes.now }
+        ensures grown { length self.new ≡ length self.old + 2 * length bytes.now }
+    {
+        let end = self.count + 2 * bytes.len();
+        let _ = hex::encode_to_slice(bytes, &mut self.bytes[self.count..end]);
+        self.count = end;
+    }
+
+    /// Puts all of the text.
+    pub(crate) fn put<O: Sink>(&mut self, out: &mut O) -> Result<(), Failed>
+        ensures put { OnOk result (O.bytes out.new ≡ gained (O.bytes out.old) self.old) }
+        ensures emptied { OnOk result (self.new ≡ []) }
+        ensures front { OnErr result ((n : ℕ) × (n ≤ length self.old)
+            × (O.bytes out.new ≡ gained (O.bytes out.old) (take n self.old))) }
+        ensures cause { HasCause (O.faults out.old) (O.faults out.new) result }
+        ensures counted { O.faults out.old ≤ O.faults out.new }
+    {
+        put_all(out, &self.bytes[..self.count])?;
+        self.count = 0;
+        Ok(())
+    }
+
+    /// Puts the text where there is no room for a line behind it.
+    pub(crate) fn make_room<O: Sink>(&mut self, out: &mut O) -> Result<(), Failed>
+        ensures put { OnOk result ((front : List ℕ)
+            × (O.bytes out.new ≡ gained (O.bytes out.old) front)
+            × (front ++ self.new ≡ self.old)) }
+        ensures room { OnOk result (length self.new + 512 ≤ 16384) }
+        ensures front { OnErr result ((n : ℕ) × (n ≤ length self.old)
+            × (O.bytes out.new ≡ gained (O.bytes out.old) (take n self.old))) }
+        ensures cause { HasCause (O.faults out.old) (O.faults out.new) result }
+        ensures counted { O.faults out.old ≤ O.faults out.new }
+    {
+        if self.count > CAPACITY - LONGEST {
+            return self.put(out);
+        }
+        Ok(())
+    }
+}
