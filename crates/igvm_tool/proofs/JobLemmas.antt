@@ -1,7 +1,16 @@
 -- Which words mean a job, by how many there are.
-use Rattle.std.proofs.Common.{◌≡◌, ◌≢◌, ℕ, suc, List, [], ◌∷◌, length, refl, sym, ◌∙◌, ap, arith, Option, Some, None}
+use Rattle.std.proofs.Common.{◌≡◌, ◌≢◌, ℕ, List, [], ◌∷◌, length, refl, arith, Some, None}
 use Rattle.std.specs.Prelude.{slice_get}
-use Rattle.igvm_tool.specs.Words.{Job, job_of, measure_job}
+use Rattle.igvm_tool.specs.Words.{job_of, print_job, measure_job}
+
+-- two words mean what the two say
+pub job_of-two : (words : List (List ℕ)) (command file : List ℕ) → length words ≡ 2
+    → slice_get words 0 ≡ Some command → slice_get words 1 ≡ Some file → job_of words ≡ print_job command file
+unfolding job_of
+job_of-two [] command file h a b = cc
+job_of-two (x ∷ []) command file h a b = cc
+job_of-two (x ∷ y ∷ []) command file h a b = cc
+job_of-two (x ∷ y ∷ z ∷ rest) command file h a b = absurd (omega arith)
 
 -- four words mean what the four say
 pub job_of-four : (words : List (List ℕ)) (command file option platform : List ℕ) → length words ≡ 4
@@ -15,14 +24,14 @@ job_of-four (x ∷ y ∷ z ∷ []) command file option platform h a b c d = cc
 job_of-four (x ∷ y ∷ z ∷ w ∷ []) command file option platform h a b c d = cc
 job_of-four (x ∷ y ∷ z ∷ w ∷ v ∷ rest) command file option platform h a b c d = absurd (omega arith)
 
--- fewer or more words mean nothing
-pub job_of-other : (words : List (List ℕ)) → length words ≢ 4 → job_of words ≡ None
+-- other counts of words mean nothing
+pub job_of-other : (words : List (List ℕ)) → length words ≢ 2 → length words ≢ 4 → job_of words ≡ None
 unfolding job_of
-job_of-other [] h = refl
-job_of-other (x ∷ []) h = refl
-job_of-other (x ∷ y ∷ []) h = refl
-job_of-other (x ∷ y ∷ z ∷ []) h = refl
-job_of-other (x ∷ y ∷ z ∷ w ∷ []) h = absurd (h refl)
-job_of-other (x ∷ y ∷ z ∷ w ∷ v ∷ rest) h = refl
+job_of-other [] h k = refl
+job_of-other (x ∷ []) h k = refl
+job_of-other (x ∷ y ∷ []) h k = absurd (h refl)
+job_of-other (x ∷ y ∷ z ∷ []) h k = refl
+job_of-other (x ∷ y ∷ z ∷ w ∷ []) h k = absurd (k refl)
+job_of-other (x ∷ y ∷ z ∷ w ∷ v ∷ rest) h k = refl
 
-pub ruleset job_laws = (job_of-four, job_of-other)
+pub ruleset job_laws = (job_of-two, job_of-four, job_of-other)

@@ -1,3 +1,4 @@
 pub mod JobLemmas
+pub mod NumberLemmas
 pub mod OutcomeLemmas
-pub mod ClauseLemmas
+pub mod WordsLemmas

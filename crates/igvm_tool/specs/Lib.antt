@@ -1,6 +1,7 @@
 pub mod Codes
 pub mod Words
 pub mod Texts
+pub mod Canonical
 pub mod JobView
 pub mod Outcome
 pub mod Clauses

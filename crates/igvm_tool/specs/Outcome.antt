@@ -4,17 +4,17 @@ use Rattle.std.specs.FinMap as map
 use Rattle.igvm_headers.specs.Kinds.{is_kind}
 use Rattle.igvm_headers.specs.declared.fault.ReadFault.{ReadFault}
 use Rattle.igvm_headers.specs.declared.platform_kind.PlatformKind.{PlatformKind}
-use Rattle.igvm_headers.specs.declared.platform_kind.PlatformKind.TheVariants.{SevSnp}
 use Rattle.platform_masks.specs.declared.platform.Platform.{Platform}
 use Rattle.platform_masks.specs.Platforms.{platforms_of}
 use Rattle.igvm_image.specs.Reading.{fault_of}
 use Rattle.igvm_image.specs.Headers.{headers_of}
 use Rattle.igvm_measure.specs.Digests.{digest_of}
+use Rattle.dump_text.specs.Listing.{print_text}
 use Rattle.igvm_outside.specs.Files.{Files}
 use Rattle.igvm_tool.specs.declared.status.Status as status
 use Rattle.igvm_tool.specs.declared.status.Status.TheVariants as is
-use Rattle.igvm_tool.specs.Words.{Job, Measure}
-use Rattle.igvm_tool.specs.Texts.{fault_text, usage_text, shelf_text, no_platform_text, long_file_text, digest_text}
+use Rattle.igvm_tool.specs.Words.{Job, Print, Measure, Wanted, First, Numbered}
+use Rattle.igvm_tool.specs.Texts.{fault_text, usage_text, shelf_text, no_platform_text, no_digest_text, long_file_text, digest_text}
 
 -- a status, what `out` gains, and what `err` gains
 pub record Outcome : Type 0 where
@@ -42,33 +42,53 @@ unfoldable pub first_platform : List ℕ → PlatformKind → Option Platform
 first_platform bytes kind =
     platform_at (platforms_of (headers_of bytes)) (position (λ p. is_kind p.kind kind) (platforms_of (headers_of bytes)))
 
+-- the platform of a number in an image
+unfoldable pub numbered_platform : List ℕ → ℕ → Option Platform
+numbered_platform bytes number = slice_get (platforms_of (headers_of bytes)) number
+
+-- the platform that is asked for
+abbrev pub wanted_platform : List ℕ → Wanted → Option Platform
+wanted_platform bytes (First kind) = first_platform bytes kind
+wanted_platform bytes (Numbered number) = numbered_platform bytes number
+
 -- the digest of an image for a platform, where its kind has one
 unfoldable pub platform_digest : List ℕ → Platform → Option (List ℕ)
 platform_digest bytes platform = digest_of bytes platform
 
+-- what is done with an accepted image
+pub data Deed : Type 0 where
+  Listed : Deed
+  Measured : (wanted : Wanted) → Deed
+
 -- the digest is put where there is one
-abbrev pub digest_outcome : Option (List ℕ) → Outcome
-digest_outcome None = refused is.Platform no_platform_text
-digest_outcome (Some digest) = done (digest_text digest)
+abbrev pub digest_outcome : PlatformKind → Option (List ℕ) → Outcome
+digest_outcome kind None = refused is.Platform (no_digest_text kind)
+digest_outcome kind (Some digest) = done (digest_text digest)
 
-abbrev pub platform_outcome : List ℕ → Option Platform → Outcome
-platform_outcome bytes None = refused is.Platform no_platform_text
-platform_outcome bytes (Some platform) = digest_outcome (platform_digest bytes platform)
+abbrev pub platform_outcome : List ℕ → Wanted → Option Platform → Outcome
+platform_outcome bytes wanted None = refused is.Platform (no_platform_text wanted)
+platform_outcome bytes wanted (Some platform) = digest_outcome platform.kind (platform_digest bytes platform)
 
-abbrev pub image_outcome : List ℕ → Option ReadFault → Outcome
-image_outcome bytes (Some fault) = refused is.File (fault_text fault)
-image_outcome bytes None = platform_outcome bytes (first_platform bytes SevSnp)
+-- of an accepted image
+unfoldable pub deed_outcome : Deed → List ℕ → Outcome
+deed_outcome Listed bytes = done (print_text bytes)
+deed_outcome (Measured wanted) bytes = platform_outcome bytes wanted (wanted_platform bytes wanted)
 
--- measuring the bytes of a file
-unfoldable pub bytes_outcome : List ℕ → Outcome
-bytes_outcome bytes =
-    if nat_lt file_limit (length bytes) then refused is.Limit long_file_text else image_outcome bytes (fault_of bytes)
+abbrev pub image_outcome : Deed → List ℕ → Option ReadFault → Outcome
+image_outcome deed bytes (Some fault) = refused is.File (fault_text fault)
+image_outcome deed bytes None = deed_outcome deed bytes
+
+-- of the bytes of a file
+unfoldable pub bytes_outcome : Deed → List ℕ → Outcome
+bytes_outcome deed bytes =
+    if nat_lt file_limit (length bytes) then refused is.Limit long_file_text else image_outcome deed bytes (fault_of bytes)
 
 -- a file that is not there is a fault of the shelf
-abbrev pub file_outcome : Option (List ℕ) → Outcome
-file_outcome None = refused is.Outside shelf_text
-file_outcome (Some bytes) = bytes_outcome bytes
+abbrev pub file_outcome : Deed → Option (List ℕ) → Outcome
+file_outcome deed None = refused is.Outside shelf_text
+file_outcome deed (Some bytes) = bytes_outcome deed bytes
 
 abbrev pub outcome : Option Job → Files → Outcome
 outcome None files = refused is.Usage usage_text
-outcome (Some (Measure file)) files = file_outcome (map.get files file)
+outcome (Some (Print file)) files = file_outcome Listed (map.get files file)
+outcome (Some (Measure file wanted)) files = file_outcome (Measured wanted) (map.get files file)

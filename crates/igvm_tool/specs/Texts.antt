@@ -3,6 +3,9 @@ use Rattle.std.specs.Prelude.{ℕ, false, List, [], ◌∷◌, ◌++◌, codes}
 use Rattle.igvm_headers.specs.declared.fault.ReadFault.{ReadFault}
 use Rattle.igvm_headers.specs.declared.fault.ReadWhat.{ReadWhat}
 use Rattle.igvm_headers.specs.declared.fault.ReadWhat.TheVariants.{TooShort, Magic, Version, TotalSize, Section, Checksum, HeaderCut, UnknownType, Length, Flags, DataType, PlatformType, Order, Mask, Align, AreaLimit, AreaRepeated, AreaUnknown, AreaSize, Wrap, DataOutside, TooManyPages, NoPlatform}
+use Rattle.igvm_headers.specs.declared.platform_kind.PlatformKind.{PlatformKind}
+use Rattle.igvm_headers.specs.Names.{kind_text}
+use Rattle.igvm_tool.specs.Words.{Wanted, First, Numbered}
 use Rattle.std.specs.Fmt.{decimal, format_spec, padded_integral, digits}
 use Rattle.hex.specs.Hex.{encode_lower}
 
@@ -54,7 +57,9 @@ fault_text fault =
     codes "igvm: file refused at " ++ (decimal fault.at ++ (codes ": " ++ (what_text fault.what ++ 10 ∷ [])))
 
 abbrev pub usage_text : List ℕ
-usage_text = line (codes "usage: igvm measure FILE --platform P") ++ line (codes "P is snp")
+usage_text =
+    line (codes "usage: igvm print FILE") ++ line (codes "       igvm measure FILE --platform P")
+    ++ line (codes "P is snp, tdx or a platform number")
 
 abbrev pub shelf_text : List ℕ
 shelf_text = line (codes "igvm: outside fault: shelf")
@@ -65,8 +70,16 @@ output_text = line (codes "igvm: outside fault: output")
 abbrev pub memory_text : List ℕ
 memory_text = line (codes "igvm: want of memory")
 
-abbrev pub no_platform_text : List ℕ
-no_platform_text = line (codes "igvm: no platform snp")
+-- the word for a platform that is asked for
+abbrev pub wanted_text : Wanted → List ℕ
+wanted_text (First kind) = kind_text kind
+wanted_text (Numbered number) = decimal number
+
+abbrev pub no_platform_text : Wanted → List ℕ
+no_platform_text wanted = codes "igvm: no platform " ++ (wanted_text wanted ++ 10 ∷ [])
+
+abbrev pub no_digest_text : PlatformKind → List ℕ
+no_digest_text kind = codes "igvm: no digest for " ++ (kind_text kind ++ 10 ∷ [])
 
 abbrev pub long_file_text : List ℕ
 long_file_text = line (codes "igvm: limit: file")

@@ -1,16 +1,19 @@
 //! Which job the words ask for.
 ghost use Rattle.std.specs.Prelude.{◌≡◌, ◌==◌};
 ghost use Rattle.std.specs.Option.{option_map};
-ghost use Rattle.igvm_tool.specs.Words.{job_of, is_text, is_file_name, measure_job};
+ghost use Rattle.igvm_tool.specs.Words.{job_of, is_text, is_file_name, print_job, measure_job};
 ghost use Rattle.igvm_tool.specs.JobView.{job_view};
 
-use crate::words::Words;
+use crate::wanted::{Wanted, wanted_of};
+use crate::words::{Words, is_text};
 
 /// What the program is asked to do.
 #[derive(Clone, Copy)]
 pub enum Job<'a> {
-    /// `measure FILE --platform snp`
-    Measure { file: &'a str },
+    /// `print FILE`
+    Print { file: &'a str },
+    /// `measure FILE --platform P`
+    Measure { file: &'a str, wanted: Wanted },
 }
 
 /// The job that these words mean, if they mean one.
@@ -18,31 +21,35 @@ pub enum Job<'a> {
 pub fn job_of(words: &Words) -> Option<Job<'_>>
     ensures { option_map job_view result ≡ job_of words.now }
 {
-    if words.len() != 4 {
-        return None;
+    match words.len() {
+        2 => print_job(words.word(0), words.word(1)),
+        4 => measure_job(words.word(0), words.word(1), words.word(2), words.word(3)),
+        _ => None,
     }
-    measure_job(words.word(0), words.word(1), words.word(2), words.word(3))
 }
 
-/// `measure FILE --platform snp`, word by word.
-fn measure_job<'a>(command: &str, file: &'a str, option: &str, platform: &str) -> Option<Job<'a>>
-    ensures { option_map job_view result ≡ measure_job command.now file.now option.now platform.now }
+/// `print FILE`, word by word.
+fn print_job<'a>(command: &str, file: &'a str) -> Option<Job<'a>>
+    ensures { option_map job_view result ≡ print_job command.now file.now }
 {
-    if is_text(command, "measure")
-        && is_file_name(file)
-        && is_text(option, "--platform")
-        && is_text(platform, "snp")
-    {
-        Some(Job::Measure { file })
+    if is_text(command, "print") && is_file_name(file) {
+        Some(Job::Print { file })
     } else {
         None
     }
 }
 
-fn is_text(word: &str, text: &str) -> bool
-    ensures { result ≡ is_text word.now text.now }
+/// `measure FILE --platform P`, word by word.
+fn measure_job<'a>(command: &str, file: &'a str, option: &str, platform: &str) -> Option<Job<'a>>
+    ensures { option_map job_view result ≡ measure_job command.now file.now option.now platform.now }
 {
-    word == text
+    if !(is_text(command, "measure") && is_file_name(file) && is_text(option, "--platform")) {
+        return None;
+    }
+    match wanted_of(platform) {
+        Some(wanted) => Some(Job::Measure { file, wanted }),
+        None => None,
+    }
 }
 
 /// A file's name is not empty and does not begin with `-`.

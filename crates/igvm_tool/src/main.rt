@@ -1,19 +1,23 @@
-//! Measures IGVM images: docs/PROGRAM.md.
+//! Prints and measures IGVM images: docs/PROGRAM.md.
 #![tactic(auto)]
 
 mod job;
+mod laws;
 mod measuring;
+mod opening;
+mod printing;
 mod refusal;
 mod running;
 mod status;
 #[cfg(test)]
 mod tests;
 mod texts;
+mod wanted;
 mod words;
 
 use igvm_headers::Memory;
 use igvm_outside::{StdShelf, StdSink};
-use refusal::{Refusal, refuse};
+use refusal::{Refusal, finish};
 use running::run;
 use status::Status;
 use std::process::ExitCode;
@@ -38,7 +42,7 @@ fn status_of(rt: HostRuntime) -> Status {
     let mut err = StdSink::error(rt);
     let words = match given_words(rt) {
         Ok(words) => words,
-        Err(Memory) => return refuse(&mut err, &Refusal::Memory),
+        Err(Memory) => return finish(&mut err, &Err(Refusal::Memory)),
     };
     let mut shelf = StdShelf::new(rt);
     let mut out = StdSink::output(rt);

@@ -1,7 +1,7 @@
 //! Why a job ends without being done.
 ghost use Rattle.std.specs.Prelude.{◌≡◌};
 ghost use Rattle.igvm_tool.specs.Clauses.{IsPut};
-ghost use Rattle.igvm_tool.specs.Refusals.{status_of, text_of};
+ghost use Rattle.igvm_tool.specs.Refusals.{status_of, text_of, end_status, EndIsPut};
 
 use crate::status::Status;
 use igvm_outside::{Sink, put_all};
@@ -16,8 +16,8 @@ pub enum Refusal {
     /// The output failed.
     Output,
     Memory,
-    /// The image has no such platform.
-    NoPlatform,
+    /// The image has no such platform, or its kind has no digest; this is its line.
+    Platform(String),
     /// The image file is longer than its limit.
     LongFile,
 }
@@ -31,7 +31,7 @@ impl Refusal {
             Refusal::Shelf => Status::Outside,
             Refusal::Output => Status::Outside,
             Refusal::Memory => Status::Memory,
-            Refusal::NoPlatform => Status::Platform,
+            Refusal::Platform(_) => Status::Platform,
             Refusal::LongFile => Status::Limit,
         }
     }
@@ -44,19 +44,27 @@ impl Refusal {
             Refusal::Shelf => "igvm: outside fault: shelf\n",
             Refusal::Output => "igvm: outside fault: output\n",
             Refusal::Memory => "igvm: want of memory\n",
-            Refusal::NoPlatform => "igvm: no platform snp\n",
+            Refusal::Platform(line) => line.as_str(),
             Refusal::LongFile => "igvm: limit: file\n",
         }
     }
 }
 
-/// Puts a refusal's line and answers its status. A failing error output changes no status.
-pub fn refuse<E: Sink>(err: &mut E, refusal: &Refusal) -> Status
-    ensures status { result ≡ status_of refusal.now }
-    ensures text { IsPut (E.bytes err.old) (E.bytes err.new) (E.faults err.old) (E.faults err.new) (text_of refusal.now) }
+/// The status of a job that ended so. A refusal's line is put; a failing error output changes no
+/// status.
+pub fn finish<E: Sink>(err: &mut E, end: &Result<(), Refusal>) -> Status
+    ensures status { result ≡ end_status end.now }
+    ensures text { EndIsPut end.now
+        (IsPut (E.bytes err.old) (E.bytes err.new) (E.faults err.old) (E.faults err.new))
+        (E.bytes err.new ≡ E.bytes err.old) }
 {
-    put_text(err, refusal.text());
-    refusal.status()
+    match end {
+        Ok(()) => Status::Done,
+        Err(refusal) => {
+            put_text(err, refusal.text());
+            refusal.status()
+        }
+    }
 }
 
 /// Puts a text, or a front of it where the error output fails.

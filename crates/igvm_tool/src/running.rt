@@ -6,6 +6,7 @@ ghost use Rattle.igvm_tool.specs.Clauses.{StatusIsTrue, UsageIsExact, OutputIsKe
 
 use crate::job::{Job, job_of};
 use crate::measuring::measure;
+use crate::printing::print;
 use crate::refusal::put_text;
 use crate::status::Status;
 use crate::texts::USAGE;
@@ -36,7 +37,8 @@ pub fn run<S: Shelf, O: Sink, E: Sink>(
         (Rose (O.faults out.old) (O.faults out.new)) }
 {
     match job_of(words) {
-        Some(Job::Measure { file }) => measure(alloc, file, shelf, out, err),
+        Some(Job::Print { file }) => print(alloc, file, shelf, out, err),
+        Some(Job::Measure { file, wanted }) => measure(alloc, file, wanted, shelf, out, err),
         None => {
             put_text(err, USAGE);
             Status::Usage

@@ -1,12 +1,18 @@
 //! The texts of docs/PROGRAM.md.
 ghost use Rattle.std.specs.Prelude.{◌≡◌, IfOk, string_bytes, length};
-ghost use Rattle.igvm_tool.specs.Texts.{rule_words, what_text, fault_text, digest_text};
+ghost use Rattle.igvm_tool.specs.Texts.{rule_words, what_text, fault_text, no_platform_text, no_digest_text, digest_text};
+ghost use Rattle.igvm_tool.specs.JobView.{wanted_view};
 
-use igvm_headers::{Digest, ReadFault, ReadWhat};
+use crate::wanted::Wanted;
+use igvm_headers::{Digest, PlatformKind, ReadFault, ReadWhat, kind_name};
 use std::alloc::{AllocError, Global};
 
 /// How the program is used.
-pub const USAGE: &str = "usage: igvm measure FILE --platform P\nP is snp\n";
+pub const USAGE: &str = "\
+usage: igvm print FILE
+       igvm measure FILE --platform P
+P is snp, tdx or a platform number
+";
 
 /// The words for a rule, before the number that two of them have.
 fn rule_words(what: ReadWhat) -> &'static str
@@ -58,6 +64,27 @@ pub fn fault_text(alloc: Global, fault: ReadFault) -> Result<String, AllocError>
     let at = fault.at;
     let what = what_text(alloc, fault.what)?;
     format!(in alloc; "igvm: file refused at {at}: {what}\n")
+}
+
+/// The line that says which platform an image does not have.
+pub fn no_platform_text(alloc: Global, wanted: Wanted) -> Result<String, AllocError>
+    ensures { IfOk result (λ text. string_bytes text ≡ no_platform_text (wanted_view wanted)) }
+{
+    match wanted {
+        Wanted::First(kind) => {
+            let name = kind_name(kind);
+            format!(in alloc; "igvm: no platform {name}\n")
+        }
+        Wanted::Numbered(number) => format!(in alloc; "igvm: no platform {number}\n"),
+    }
+}
+
+/// The line that says that platforms of a kind have no digest.
+pub fn no_digest_text(alloc: Global, kind: PlatformKind) -> Result<String, AllocError>
+    ensures { IfOk result (λ text. string_bytes text ≡ no_digest_text kind) }
+{
+    let name = kind_name(kind);
+    format!(in alloc; "igvm: no digest for {name}\n")
 }
 
 /// The line of a digest.

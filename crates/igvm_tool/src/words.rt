@@ -1,4 +1,5 @@
 //! The words that the program was given.
+ghost use Rattle.igvm_tool.specs.Words.{is_text};
 ghost use Rattle.std.specs.Prelude.{◌≡◌, [], ◌∷◌, ◌++◌, length, ◌<◌, Some, ◌==◌, slice_get, OnOk, OnErr};
 
 use igvm_headers::Memory;
@@ -66,4 +67,11 @@ impl Words {
     {
         self.kept[place].as_str()
     }
+}
+
+/// A word is this text.
+pub fn is_text(word: &str, text: &str) -> bool
+    ensures { result ≡ is_text word.now text.now }
+{
+    word == text
 }

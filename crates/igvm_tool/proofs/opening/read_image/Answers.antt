@@ -1,6 +1,6 @@
 use Rattle.std.proofs.Common.{ap, Err}
 use Rattle.igvm_tool.proofs.OutcomeLemmas.{long_told}
-use Rattle.igvm_tool.proofs.measuring.file_digest.Goals as goal
+use Rattle.igvm_tool.proofs.opening.read_image.Goals as goal
 
 -- a file that gave too much has more than the limit
 pub returns-in-Err-TooLong-clause-refused : goal.returns-in-Err-TooLong-clause-refused
