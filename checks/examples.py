@@ -1,21 +1,22 @@
 #!/usr/bin/env -S python3 -B
-"""The example images, their table and the program agree: examples.py [IMAGE..]
+"""The example images, their listings, their table and the program agree: examples.py [IMAGE..]
 
-For each image of examples/ the digest is computed by snp.py, and compared with examples/README.md and with what
-the program prints ($IGVM, or crates/igvm_tool/out/igvm_tool). The images are those that make_images.py writes.
-Further images that are named are measured by the program and by snp.py alone. Ends with 77 where the program isn't
-built.
+The images of examples/ and their listings are those that make_images.py writes. The plain reader gives the same
+listings, and the digests that examples/README.md has for each image. Then the program ($IGVM, or
+crates/igvm_tool/out/igvm_tool) is run by all commands over each image, and compared with the plain reader; so it is
+over further images that are named. Ends with 77 where the program isn't built.
 """
 import os
 import subprocess
 import sys
 import tempfile
 
-import snp
+import reader
+from answers import COMMANDS, answer, words
+from listing import listing
+from program import ROOT, Program, is_built
 
-ROOT = os.path.dirname(os.path.dirname(os.path.abspath(__file__)))
 EXAMPLES = os.path.join(ROOT, "examples")
-PROGRAM = os.environ.get("IGVM") or os.path.join(ROOT, "crates", "igvm_tool", "out", "igvm_tool")
 
 
 def read(*path):
@@ -23,48 +24,66 @@ def read(*path):
         return file.read()
 
 
-def made_again(names):
+def made_again():
     """What make_images.py writes today, by name."""
     with tempfile.TemporaryDirectory() as folder:
         script = os.path.join(EXAMPLES, "make_images.py")
-        subprocess.run([sys.executable, script, folder], check=True, stdout=subprocess.DEVNULL)
-        return {name: read(folder, name) for name in names}
+        subprocess.run([sys.executable, "-B", script, folder], check=True, stdout=subprocess.DEVNULL)
+        return {name: read(folder, name) for name in sorted(os.listdir(folder))}
 
 
-def measured(path):
-    """What the program answers: status, output, error."""
-    done = subprocess.run([PROGRAM, "measure", path, "--platform", "snp"], capture_output=True, timeout=600)
-    return done.returncode, done.stdout, done.stderr
+def file_faults(written):
+    """Where the files of examples/ are others than those written."""
+    images = {name for name in os.listdir(EXAMPLES) if name.endswith(".igvm")}
+    for name in sorted(images - written.keys()):
+        yield f"{name}: make_images.py doesn't write it"
+    for name, content in written.items():
+        if not os.path.exists(os.path.join(EXAMPLES, name)) or read(EXAMPLES, name) != content:
+            yield f"{name}: make_images.py writes another file"
 
 
-def expected(image):
-    want = snp.digest(image)
-    if want is None:
-        return 6, b"", b"igvm: no platform snp\n"
-    return 0, want.encode() + b"\n", b""
+def page_faults(name, image, text, table):
+    """Where an image's listing and its rows of the table differ from the plain reader."""
+    fault = reader.first_fault(image)
+    if fault is not None:
+        yield f"{name}: the plain reader refuses it: {fault}"
+        return
+    if listing(image) != text:
+        yield f"{name}: the plain reader lists it otherwise"
+    for kind in ("snp", "tdx"):
+        status, output, error = answer(f"measure {kind}", image, fault)
+        want = f"| `{name}` | {kind} | `{output.strip()}` |"
+        if status == 0 and want not in table:
+            yield f"{name}: README.md has no row {want}"
+
+
+def program_faults(paths):
+    """Where the program answers otherwise than the plain reader."""
+    with tempfile.TemporaryDirectory() as folder:
+        program = Program(folder)
+        for path in paths:
+            image = read(path)
+            fault = reader.first_fault(image)
+            for command in COMMANDS:
+                want, got = answer(command, image, fault), program.run(words(command, path))
+                if got != want:
+                    yield f"{path}: {command}: the program answers {got}, expected {want}"
 
 
 def main():
-    names = sorted(name for name in os.listdir(EXAMPLES) if name.endswith(".igvm"))
-    table = read(EXAMPLES, "README.md").decode()
-    written = made_again(names)
-    built = os.access(PROGRAM, os.X_OK)
+    written = made_again()
+    names = [name for name in written if name.endswith(".igvm")]
+    table = read(EXAMPLES, "README.md").decode().splitlines()
     paths = [os.path.join(EXAMPLES, name) for name in names] + sys.argv[1:]
-    faults = []
+    faults = list(file_faults(written))
     for name in names:
-        image = read(EXAMPLES, name)
-        if image != written[name]:
-            faults.append(f"{name}: make_images.py writes another file")
-        if not any(name in line and snp.digest(image) in line for line in table.splitlines()):
-            faults.append(f"{name}: README.md has another digest than {snp.digest(image)}")
-    for path in paths if built else []:
-        want, got = expected(read(path)), measured(path)
-        if got != want:
-            faults.append(f"{path}: the program answers {got}, expected {want}")
+        text = written[name.replace(".igvm", ".txt")].decode()
+        faults += page_faults(name, written[name], text, table)
+    faults += program_faults(paths) if is_built() else []
     for fault in faults:
         print(f"examples: {fault}")
-    if not built and not faults:
-        print(f"examples: skipped, the program isn't built ({len(names)} images and their table agree)")
+    if not is_built() and not faults:
+        print(f"examples: skipped, the program isn't built ({len(names)} images, listings and digests agree)")
         return 77
     print(f"examples: {len(paths)} images, {len(faults)} faults")
     return 1 if faults else 0

@@ -3,37 +3,12 @@
 It shares no code with the toolset. Rules are judged in the page's order, each spelled as the page spells it, so
 that a difference from the program is a fault of one of the three.
 """
-import struct
-from collections import namedtuple
+from records import LARGE, LENGTHS, PAGE, covered, fixed, split
 
-PAGE, LARGE = 4096, 2097152
-
-# type: (header, class)
-TYPES = {
-    0x001: ("Platform", 1),
-    0x101: ("Policy", 2), 0x102: ("Carried", 2), 0x103: ("Carried", 2),
-    0x301: ("Area", 3), 0x302: ("Page", 3), 0x303: ("Insert", 3), 0x304: ("Context", 3), 0x305: ("Required", 3),
-    0x307: ("Param", 3), 0x308: ("Param", 3), 0x309: ("Param", 3), 0x30A: ("Param", 3), 0x30B: ("IdBlock", 3),
-    0x30C: ("Param", 3), 0x30D: ("ErrorRange", 3), 0x30E: ("Param", 3), 0x30F: ("Param", 3), 0x310: ("Param", 3),
-    0x311: ("Carried", 3), 0x312: ("Param", 3), 0x313: ("Param", 3),
-}
-LENGTHS = {"Platform": (16,), "Policy": (16,), "Area": (16,), "Page": (24,), "Insert": (16,), "Param": (8,),
-           "Context": (20, 24), "Required": (24,), "ErrorRange": (16,), "IdBlock": (696,)}
-# The fields that a rule looks at; the others stand between and behind them.
-LAYOUTS = {
-    "Platform": ("<IxB", namedtuple("Platform", "mask platform_type")),
-    "Area": ("<QII", namedtuple("Area", "size index offset")),
-    "Page": ("<QIIIH", namedtuple("Page", "gpa mask offset flags data_type")),
-    "Insert": ("<QII", namedtuple("Insert", "gpa mask index")),
-    "Param": ("<I", namedtuple("Param", "index")),
-    "Context": ("<QII", namedtuple("Context", "gpa mask offset")),
-}
 NAMES = ("TooShort", "Magic", "Version", "TotalSize", "Section", "Checksum",
          "UnknownType", "Length", "Flags", "DataType", "PlatformType",
          "Order", "Mask", "Align", "AreaLimit", "AreaRepeated", "AreaUnknown", "AreaSize", "Wrap", "DataOutside",
          "TooManyPages", "HeaderCut", "NoPlatform")
-
-Header = namedtuple("Header", "place type content")
 
 
 def low_bit_out(state):
@@ -57,53 +32,6 @@ def checksum(message):
     return state ^ 0xFFFFFFFF
 
 
-def fixed(file):
-    """Version, section offset, section size, total size and checksum."""
-    return struct.unpack_from("<5I", file, 4)
-
-
-def covered(file):
-    """The bytes that the checksum covers."""
-    _, offset, size, _, _ = fixed(file)
-    return file[:20] + bytes(4) + file[offset:offset + size]
-
-
-def split(file):
-    """The section's headers in file order, and the place of its cut rest or None."""
-    _, at, size, _, _ = fixed(file)
-    end, found = at + size, []
-    while end - at:
-        left = end - at
-        if left < 8:
-            return found, at
-        kind, length = struct.unpack_from("<II", file, at)
-        if left < 8 + length:
-            return found, at
-        found.append(Header(at, kind, file[at + 8:at + 8 + length]))
-        row = (8 + length + 7) // 8 * 8
-        if left <= row:
-            break
-        at += row
-    return found, None
-
-
-def headers(file):
-    """The headers of a file that keeps rules 1 to 5."""
-    return split(file)[0]
-
-
-def name_and_class(kind):
-    """A type's header and class; both None where it is unknown."""
-    return ("Carried", None) if kind >= 0x80000000 else TYPES.get(kind, (None, None))
-
-
-def fields(name, content):
-    if name not in LAYOUTS:
-        return None
-    layout, kind = LAYOUTS[name]
-    return kind._make(struct.unpack_from(layout, content))
-
-
 class Before:
     """What the rules need of the headers before one; all of those kept every rule."""
 
@@ -118,13 +46,12 @@ class Before:
         return self.pages
 
     def add(self, header):
-        name, order = name_and_class(header.type)
-        field = fields(name, header.content)
-        self.highest_class = max(self.highest_class, order or 0)
-        self.pages = self.pages_with(name, field)
-        if name == "Platform":
+        field = header.fields
+        self.highest_class = max(self.highest_class, header.order or 0)
+        self.pages = self.pages_with(header.name, field)
+        if header.name == "Platform":
             self.masks.append(field.mask)
-        if name == "Area":
+        if header.name == "Area":
             self.areas[field.index] = field.size
 
 
@@ -145,27 +72,28 @@ def file_faults(file):
         yield "Checksum", 20, "checksum"
 
 
-def own_faults(header, name):
+def own_faults(header):
     """Rules 7 to 11: what a header's own type and bytes break."""
+    name = header.name
     if name is None:
         yield "UnknownType", f"unknown type {header.type:08x}"
     if name != "Carried" and len(header.content) not in LENGTHS[name]:
         yield "Length", "length"
-    field = fields(name, header.content)
+    field = header.fields
     if name == "Page":
         others = [bit for bit in range(2, 32) if field.flags >> bit & 1]
         if others:
             yield "Flags", f"flag bit {others[0]}"
         if field.data_type > 3 or field.flags & 1 and field.data_type != 0:
             yield "DataType", "data type"
-    if name == "Platform" and field.platform_type > 5:
+    if name == "Platform" and field.kind > 5:
         yield "PlatformType", "platform type"
 
 
-def row_faults(header, name, order, before, total):
+def row_faults(header, before, total):
     """Rules 12 to 21."""
-    field = fields(name, header.content)
-    if order is not None and before.highest_class > order:
+    name, field = header.name, header.fields
+    if header.order is not None and before.highest_class > header.order:
         yield "Order", "order"
     if name == "Platform" and (bin(field.mask).count("1") != 1 or field.mask in before.masks):
         yield "Mask", "mask"
@@ -199,10 +127,9 @@ def faults(file):
     found, rest = split(file)
     before = Before()
     for header in found:
-        name, order = name_and_class(header.type)
-        for fault, text in own_faults(header, name):
+        for fault, text in own_faults(header):
             yield fault, header.place, text
-        for fault, text in row_faults(header, name, order, before, total):
+        for fault, text in row_faults(header, before, total):
             yield fault, header.place, text
         before.add(header)
     if rest is not None:

@@ -1,0 +1,43 @@
+"""What the program answers to a command on an image, by docs/PROGRAM.md and the plain reader.
+
+A command is `print`, or `measure` and the word P of `--platform P`, as in "measure snp".
+"""
+import digests
+from listing import PLATFORM_KINDS, listing
+from records import platforms
+
+COMMANDS = ("print", "measure snp", "measure tdx", "measure 0", "measure 1", "measure 2", "measure 3")
+
+
+def words(command, path):
+    """The program's words for a command on the file of this name."""
+    job, *wanted = command.split()
+    return [job, path] + (["--platform", *wanted] if wanted else [])
+
+
+def platform(image, wanted):
+    """The platform that P means, or None: the first of a kind, or the one of a number."""
+    found = platforms(image)
+    if wanted in ("snp", "tdx"):
+        return next((one for one in found if PLATFORM_KINDS[one.kind] == wanted), None)
+    return found[int(wanted)] if int(wanted) < len(found) else None
+
+
+def measured(image, wanted):
+    one = platform(image, wanted)
+    if one is None:
+        return 6, "", f"igvm: no platform {wanted}\n"
+    digest = digests.digest(image, one)
+    if digest is None:
+        return 6, "", f"igvm: no digest for {PLATFORM_KINDS[one.kind]}\n"
+    return 0, digest.hex() + "\n", ""
+
+
+def answer(command, image, fault):
+    """Status, output and error for an image whose first fault is this one, or None."""
+    if fault is not None:
+        _, at, text = fault
+        return 1, "", f"igvm: file refused at {at}: {text}\n"
+    if command == "print":
+        return 0, listing(image), ""
+    return measured(image, command.split()[1])

@@ -1,0 +1,95 @@
+#!/usr/bin/env -S python3 -B
+"""The program takes the words that docs/PROGRAM.md lists, and no others.
+
+Each row of words is run in a folder where a small image with three platforms lies under several names. The usage
+text is read from the page. Ends with 77 where the program isn't built.
+"""
+import os
+import sys
+import tempfile
+
+import images
+from answers import answer
+from program import ROOT, Program, is_built
+
+PLATFORMS = ((1, 0), (2, 3), (4, 2))           # mask and platform type: native, tdx, snp
+IMAGE = images.image_of(images.row([*(images.platform(*one) for one in PLATFORMS), images.page(0x1000, mask=6)]))
+NAMES = ("image", "-x", "measure", "print", "snp")      # the image's, all the same
+# words that mean a job, and the command that it is
+TAKEN = (
+    ("print image", "print"), ("measure image --platform snp", "measure snp"),
+    ("measure image --platform tdx", "measure tdx"), ("measure image --platform 0", "measure 0"),
+    ("measure image --platform 1", "measure 1"), ("measure image --platform 2", "measure 2"),
+    ("measure image --platform 3", "measure 3"), ("measure image --platform 32", "measure 32"),
+    ("measure image --platform 4294967295", "measure 4294967295"),
+    ("print measure", "print"), ("print ./-x", "print"), ("measure print --platform 1", "measure 1"),
+    ("print snp", "print"),
+)
+# words that mean none
+REFUSED = (
+    "", "print", "measure", "help", "--help", "-h", "--version", "--", "image", "PRINT image", "prin image",
+    "print image image", "print image --platform snp", "print -x", "print --", "print -- image", "-- print image",
+    "image print", "print --help", "load image image --platform snp", "build image out", "make 4 out",
+    "measure image", "measure image --platform", "measure image snp", "measure image -p snp",
+    "measure --platform snp image", "--platform snp measure image", "measure image --platform=snp",
+    "measure -x --platform snp", "measure image --platform snp --platform snp", "measure image --platform snp snp",
+    "measure image --Platform snp", "measure image --platform SNP", "measure image --platform sev",
+    "measure image --platform native", "measure image --platform snpx", "measure image --platform -1",
+    "measure image --platform +1", "measure image --platform 01", "measure image --platform 00",
+    "measure image --platform 0x1", "measure image --platform 1.0", "measure image --platform 1a",
+    "measure image --platform 4294967296", "measure image --platform 99999999999999999999999999",
+    "measure image --platform \u0661", "measure image --native-zero --platform snp",
+)
+EMPTY = (["print", ""], ["measure", "", "--platform", "snp"], ["measure", "image", "", "snp"],
+         ["measure", "image", "--platform", ""], ["", "image"], ["print image"], [b"print", b"im\xffage"],
+         [b"measure", b"image", b"--platform", b"\xff"])
+
+
+def usage():
+    """The block of docs/PROGRAM.md that begins with `usage: `."""
+    with open(os.path.join(ROOT, "docs", "PROGRAM.md"), encoding="utf-8") as page:
+        lines = page.read().splitlines()
+    first = next(at for at, line in enumerate(lines) if line.strip().startswith("usage: "))
+    last = next(at for at in range(first, len(lines)) if not lines[at].strip() or lines[at].startswith("```"))
+    indent = len(lines[first]) - len(lines[first].lstrip())
+    return "".join(line[indent:] + "\n" for line in lines[first:last])
+
+
+def rows():
+    """(words, status, output, error) of each run."""
+    for words, command in TAKEN:
+        yield words.split(), answer(command, IMAGE, None)
+    for words in (*(words.split() for words in REFUSED), *EMPTY):
+        yield words, (2, "", usage())
+    yield ["print", "missing"], (4, "", "igvm: outside fault: shelf\n")
+    yield ["measure", ".", "--platform", "0"], (4, "", "igvm: outside fault: shelf\n")
+
+
+def differences(folder):
+    """The words that are answered otherwise, each a text, and None for the others."""
+    for name in NAMES:
+        with open(os.path.join(folder, name), "wb") as file:
+            file.write(IMAGE)
+    program = Program(folder)
+    os.chdir(folder)
+    for words, want in rows():
+        got = program.run(words)
+        yield None if got == want else f"{words}: the program answers {got}, expected {want}"
+
+
+def main():
+    if not is_built():
+        print("usage: skipped, the program isn't built")
+        return 77
+    with tempfile.TemporaryDirectory() as folder:
+        found = list(differences(folder))
+        os.chdir(ROOT)
+    faults = [text for text in found if text is not None]
+    for fault in faults:
+        print(f"usage: {fault}")
+    print(f"usage: {len(found)} rows, {len(faults)} differ")
+    return 1 if faults else 0
+
+
+if __name__ == "__main__":
+    sys.exit(main())
