@@ -1,0 +1,239 @@
+-- The list of an accepted file breaks no rule.
+use Rattle.std.proofs.Common.{◌≡◌, ℕ, zero, suc, ◌+◌, ◌-◌, ◌*◌, ◌/◌, ◌%◌, ◌^◌, ◌<◌, ◌≤◌, List, [], ◌∷◌, ◌++◌, length, map, take, drop, replicate, length-append, append-nil, append_assoc, add-one, add-zero, zero-add, refl, sym, ◌∙◌, ap, ap₂, subst, arith, Option, Some, None, Result, Ok, Err, Bool, true, false}
+use Rattle.std.specs.Prelude.{if◌then◌else◌, ◌==◌, ◌&&◌, ◌||◌, not, nat_lt}
+use Rattle.std.proofs.lemmas.List.{map-append, length-map, length-take, length-take-le, length-drop, length-replicate, drop-drop}
+use Rattle.std.proofs.Math.Seq.{take-add}
+use Rattle.igvm_headers.specs.Numbers.{slice}
+use Rattle.std.proofs.lemmas.List.FromFn.{length-range_with_len}
+use Rattle.igvm_headers.proofs.Pages.{length_padded_page}
+use Rattle.std.proofs.lemmas.Bool.{eq-eqb}
+use Rattle.std.specs.List.{flat_map, range_with_len, AllByRecursion}
+use Rattle.std.proofs.lemmas.Grind.{flat_map-append}
+use Rattle.igvm_headers.specs.Records.{header_form}
+use Rattle.igvm_headers.specs.Fixed.{fixed_fields}
+use Rattle.igvm_headers.specs.Pages.{file_body, body_page, padded_page}
+use Rattle.igvm_headers.specs.declared.header.Header.{Header}
+use Rattle.igvm_headers.specs.declared.header.Header.TheVariants.{Platform, Area, Page, Context}
+use Rattle.igvm_headers.specs.declared.fault.ReadWhat.{ReadWhat}
+use Rattle.igvm_headers.specs.declared.fault.ReadFault.{ReadFault}
+use Rattle.igvm_headers.specs.declared.fault.ReadWhat.TheVariants.{NoPlatform}
+use Rattle.igvm_headers.specs.Fixed.{fault_at}
+use Rattle.platform_masks.specs.Platforms.{platforms_of}
+use Rattle.igvm_image.specs.Data.{Data, data_in, data_page, data_pages}
+use Rattle.igvm_image.specs.Pieces.{Piece, size_of, cut}
+use Rattle.igvm_image.specs.Rules.{Seen, seen_of, rule_fault, breaks_area_size}
+use Rattle.igvm_image.specs.Reading.{judged, headers_fault, unless_fault, end_fault, section_of}
+use Rattle.igvm_image.specs.Headers.{PlacedHeader, IsAccepted, placed_from, placed_before, placed_header, placed_headers, pieces_of}
+use Rattle.igvm_image.proofs.Walking.{judged_ok}
+use Rattle.igvm_image.proofs.CutLaws.{accepted_is}
+use Rattle.component_list.specs.declared.component.Component.{Component}
+use Rattle.component_list.specs.declared.component.Content.TheVariants.{Zero, Bytes}
+use Rattle.component_list.specs.Components.{with_offset, is_unknown, breaks_length, breaks_data_type, fits_content, fills, tail_size}
+use Rattle.component_list.specs.Ranges.{IsComponent}
+use Rattle.component_list.specs.Lists.{component_fault, fault_behind, list_fault, unless_broken, IsValid}
+use Rattle.component_list.specs.Lists as lists
+use Rattle.component_list.specs.Images.{data_bytes, stored, content_of, tail_of, component_of, list_of}
+use Rattle.component_list.proofs.SameRules.{passed_over, seen_same, rules_at, inside_at_0, keeps_rules}
+use Rattle.component_list.proofs.ReadHeaders.{IsRead, read_is}
+
+unknown_same : (h : Header) → is_unknown (with_offset 0 h) ≡ is_unknown h
+unknown_same (Area bytes area offset) = refl
+unknown_same (Page gpa mask offset large unmeasured kind) = refl
+unknown_same (Context gpa mask offset vp) = refl
+unknown_same h = refl
+
+normal_same : (h : Header) → breaks_data_type (with_offset 0 h) ≡ breaks_data_type h
+normal_same (Area bytes area offset) = refl
+normal_same (Page gpa mask offset large unmeasured kind) = refl
+normal_same (Context gpa mask offset vp) = refl
+normal_same h = refl
+
+tail_same : (h : Header) → tail_size (with_offset 0 h) ≡ tail_size h
+tail_same (Area bytes area offset) = refl
+tail_same (Page gpa mask offset large unmeasured kind) = refl
+tail_same (Context gpa mask offset vp) = refl
+tail_same h = refl
+
+-- a page of data is a whole page
+pub data_page_size : (data' : Data) (k : ℕ) → length (data_page data' k) ≡ 4096
+unfolding body_page
+data_page_size data' k = cases (data'.offset == 0)
+  where
+    within : (xs : List ℕ) → length (take 4096 xs) ≤ 4096
+    within xs = simp length-take (omega arith)
+
+    lent : List ℕ
+    lent = take 4096 (drop (data'.offset + 4096 * k) data'.body)
+
+    cases : (b : Bool) → length (if b then replicate 4096 0 else padded_page lent) ≡ 4096
+    cases true = length-replicate {A = ℕ} 4096 0
+    cases false = length_padded_page lent (within _)
+
+-- so many pages are so many bytes
+pages_size : (data' : Data) (ks : List ℕ) → length (flat_map (data_page data') ks) ≡ 4096 * length ks
+pages_size data' [] = refl
+pages_size data' (k ∷ ks) =
+    let first = data_page_size data' k in
+    let others = pages_size data' ks in
+    simp length-append (omega arith)
+
+pub data_bytes_size : (data' : Data) → length (data_bytes data') ≡ 4096 * data'.pages
+unfolding data_bytes
+data_bytes_size data' = pages_size data' (range_with_len 0 data'.pages) ∙ ap (λ n. 4096 * n) (length-range_with_len 0 data'.pages)
+
+stored_fills : (offset : ℕ) (data' : Data) (size : ℕ) → 4096 * data'.pages ≡ size → fills size (stored offset data') ≡ true
+stored_fills offset data' size same = cases (offset == 0)
+  where
+    cases : (b : Bool) → fills size (if b then Zero else Bytes (data_bytes data')) ≡ true
+    cases true = refl
+    cases false = eq-eqb _ _ (data_bytes_size data' ∙ same)
+
+-- an area is whole pages
+whole_area : (bytes : ℕ) → (bytes == 0) || not (bytes % 4096 == 0) || nat_lt 67108864 bytes ≡ false → 4096 * (bytes / 4096) ≡ bytes
+whole_area bytes kept = grind arith
+
+content_fits : (body : List ℕ) (h : Header) → breaks_area_size h ≡ false → fits_content (with_offset 0 h) (content_of h (data_in body h)) ≡ true
+content_fits body (Area bytes area offset) kept = stored_fills offset _ bytes (whole_area bytes kept)
+content_fits body (Page gpa mask offset large unmeasured kind) kept = stored_fills offset _ _ (cases large)
+  where
+    cases : (large : Bool) → 4096 * (if large then 512 else 1) ≡ (if large then 2097152 else 4096)
+    cases true = refl
+    cases false = refl
+content_fits body (Context gpa mask offset vp) kept = stored_fills offset _ 4096 refl
+content_fits body h kept = refl
+
+-- the component of a header that breaks no rule breaks none
+component_kept : (body : List ℕ) (index at total : ℕ) (p : Piece) (h : Header) (seen : Seen)
+    → header_form p.kind p.content ≡ Ok h → rule_fault total seen h ≡ None
+    → component_fault seen (component_of (placed_header body index at p h)) ≡ None
+unfolding component_fault
+component_kept body index at total p h seen form none =
+    let read = read_is p.kind p.content h form in
+    let rules = keeps_rules total seen h none in
+    let known = unknown_same h ∙ read.known in
+    let tail : (length (tail_of h p.content) == tail_size (with_offset 0 h)) ≡ true = eq-eqb _ _ (read.tail ∙ sym (tail_same h)) in
+    let normal = normal_same h ∙ read.normal in
+    let sized : breaks_length (component_of (placed_header body index at p h)) ≡ false =
+    ap₂ (λ a b. not (a && b)) tail (content_fits body h rules.size) in
+    passed_over _ _ _ known (passed_over _ _ _ sized (passed_over _ _ _ normal (rules_at total 0 0 seen h none (inside_at_0 0 h))))
+
+-- behind headers of the file, and the components of these
+behind_kept : (body : List ℕ) (index total start at : ℕ) (before : List Header) (ps : List Piece) (rest : List ℕ)
+    → headers_fault total start at before ps rest ≡ None
+    → fault_behind (map (with_offset 0) before) (map component_of (placed_from body index at ps)) ≡ None
+unfolding headers_fault placed_from fault_behind
+behind_kept body index total start at before [] [] kept =
+    ap (λ (seen : Seen). if length seen.platforms == 0 then Some (lists.fault_in (length (map (with_offset 0) before)) NoPlatform) else None) (seen_same 0 before)
+    ∙ none (length (platforms_of before) == 0) kept
+  where
+    none : (b : Bool) → (if b then Some (fault_at start NoPlatform) else None) ≡ None
+        → (if b then Some (lists.fault_in (length (map (with_offset 0) before)) NoPlatform) else None) ≡ None
+    none true h = cc
+    none false h = refl
+behind_kept body index total start at before [] (byte ∷ rest) kept = cc
+behind_kept body index total start at before (p ∷ ps) rest kept =
+    cases (judged total (seen_of before) p) refl kept
+    (λ header. behind_kept body (suc index) total start (at + size_of p) (before ++ header ∷ []) ps rest)
+  where
+    Later : Header → Type 0
+    Later header = headers_fault total start (at + size_of p) (before ++ header ∷ []) ps rest ≡ None
+        → fault_behind (map (with_offset 0) (before ++ header ∷ [])) (map component_of (placed_from body (suc index) (at + size_of p) ps)) ≡ None
+
+    cases : (j : Result Header ReadWhat) → judged total (seen_of before) p ≡ j
+        → unless_fault at j (λ header. headers_fault total start (at + size_of p) (before ++ header ∷ []) ps rest) ≡ None
+        → ((header : Header) → Later header)
+        → fault_behind (map (with_offset 0) before)
+        (map component_of (placed_before (placed_header body index at p) (header_form p.kind p.content) (placed_from body (suc index) (at + size_of p) ps))) ≡ None
+    cases (Err what) same h later = cc
+    cases (Ok header) same h later =
+        let accepted = judged_ok total (seen_of before) p header same in
+        let found = component_kept body index at total p header (seen_of (map (with_offset 0) before)) accepted.form
+        (ap (λ seen. rule_fault total seen header) (seen_same 0 before) ∙ accepted.rules) in
+        ap (λ form. fault_behind (map (with_offset 0) before) (map component_of (placed_before (placed_header body index at p) form (placed_from body (suc index) (at + size_of p) ps)))) accepted.form
+        ∙ ap (λ f. unless_broken (length (map (with_offset 0) before)) f
+        (fault_behind (map (with_offset 0) before ++ with_offset 0 header ∷ []) (map component_of (placed_from body (suc index) (at + size_of p) ps)))) found
+        ∙ ap (λ hs. fault_behind hs (map component_of (placed_from body (suc index) (at + size_of p) ps))) (sym (map-append (with_offset 0) before (header ∷ [])))
+        ∙ later header h
+
+pub image_list_kept : (file : List ℕ) → IsAccepted file → list_fault (list_of file) ≡ None
+image_list_kept file accepted =
+    behind_kept (file_body file) 0 (fixed_fields file).total (fixed_fields file).var_offset (fixed_fields file).var_offset []
+    (pieces_of file) (cut (section_of file (fixed_fields file))) (accepted_is file accepted).headers
+
+-- one page more of data
+range_more : (a n : ℕ) → range_with_len a (suc n) ≡ range_with_len a n ++ (a + n) ∷ []
+range_more a zero = ap (λ x. x ∷ []) (sym (add-zero a))
+range_more a (suc n) = ap (λ xs. a ∷ xs) (range_more (a + 1) n ∙ ap (λ x. range_with_len (a + 1) n ++ x ∷ []) (omega arith))
+
+pub pages_more : (data' : Data) (k : ℕ) → flat_map (data_page data') (range_with_len 0 (k + 1)) ≡ flat_map (data_page data') (range_with_len 0 k) ++ data_page data' k
+pages_more data' k =
+    ap (λ n. flat_map (data_page data') (range_with_len 0 n)) (add-one k)
+    ∙ ap (flat_map (data_page data')) (range_more 0 k ∙ ap (λ x. range_with_len 0 k ++ x ∷ []) (zero-add k))
+    ∙ flat_map-append (data_page data') (range_with_len 0 k) (k ∷ [])
+    ∙ ap (λ xs. flat_map (data_page data') (range_with_len 0 k) ++ xs) (append-nil (data_page data' k))
+
+-- The components made, with those of the headers that are left, are those of all.
+pub record Listing (all left : List PlacedHeader) (made : List Component) : Type 0 where
+  pub same : made ++ map component_of left ≡ map component_of all
+  pub each : AllByRecursion IsComponent made
+
+pub listing_start : (all left : List PlacedHeader) → left ≡ all → Listing all left []
+listing_start all left same = record { same = ap (map component_of) same; each = tt }
+
+all_more : (xs : List Component) (c : Component) → AllByRecursion IsComponent xs → IsComponent c → AllByRecursion IsComponent (xs ++ c ∷ [])
+all_more [] c each one = (one, tt)
+all_more (x ∷ xs) c each one = (each.0, all_more xs c each.1 one)
+
+pub listing_more : (all before : List PlacedHeader) (p : PlacedHeader) (left : List PlacedHeader) (made new : List Component) (c : Component)
+    → Listing all before made → before ≡ p ∷ left → c ≡ component_of p → IsComponent c → new ≡ made ++ c ∷ [] → Listing all left new
+listing_more all before p left made new c l first is fits pushed =
+    let here = subst (λ (ps : List PlacedHeader). Listing all ps made) first l in
+    let new_made : new ≡ made ++ component_of p ∷ [] = pushed ∙ ap (λ x. made ++ x ∷ []) is in
+    record {
+      same = ap (λ xs. xs ++ map component_of left) new_made ∙ append_assoc made (component_of p ∷ []) (map component_of left) ∙ here.same;
+      each = subst (AllByRecursion IsComponent) (sym pushed) (all_more made c here.each fits);
+    }
+
+pub listing_end : (file : List ℕ) (left : List PlacedHeader) (made : List Component) → IsAccepted file → length (placed_headers file) < 2 ^ 32
+    → Listing (placed_headers file) left made → left ≡ [] → (made ≡ list_of file) × IsValid made
+listing_end file left made accepted few l none =
+    let same : made ≡ list_of file = sym (append-nil made) ∙ ap (λ ps. made ++ map component_of ps) (sym none) ∙ l.same in (
+      same,
+      record {
+        kept = ap list_fault same ∙ image_list_kept file accepted;
+        fits = record {
+          few = (let sized = ap length same ∙ length-map (placed_headers file) component_of in omega arith);
+          each = l.each;
+        };
+      },
+    )
+
+-- ---- data that lie within the file
+
+-- a page within the file's body is its bytes
+page_within : (data' : Data) (k : ℕ) → (data'.offset == 0) ≡ false → data'.offset + 4096 * k + 4096 ≤ length data'.body
+    → data_page data' k ≡ slice data'.body (data'.offset + 4096 * k) 4096
+unfolding body_page padded_page
+page_within data' k some within =
+    let size : length (slice data'.body (data'.offset + 4096 * k) 4096) ≡ 4096 =
+    length-take-le 4096 (drop (data'.offset + 4096 * k) data'.body) (simp length-drop (omega arith)) in
+    ap (λ b. if b then replicate 4096 0 else padded_page (slice data'.body (data'.offset + 4096 * k) 4096)) some
+    ∙ ap (λ n. slice data'.body (data'.offset + 4096 * k) 4096 ++ replicate (4096 - n) 0) size
+    ∙ append-nil (slice data'.body (data'.offset + 4096 * k) 4096)
+
+rows_within : (data' : Data) (n : ℕ) → (data'.offset == 0) ≡ false → data'.offset + 4096 * n ≤ length data'.body
+    → flat_map (data_page data') (range_with_len 0 n) ≡ slice data'.body data'.offset (4096 * n)
+rows_within data' zero some within = refl
+rows_within data' (suc n) some within =
+    let here : data'.offset + 4096 * n + 4096 ≤ length data'.body = omega arith in
+    ap (λ k. flat_map (data_page data') (range_with_len 0 k)) (sym (add-one n))
+    ∙ pages_more data' n
+    ∙ ap (λ xs. xs ++ data_page data' n) (rows_within data' n some (omega arith))
+    ∙ ap (λ xs. slice data'.body data'.offset (4096 * n) ++ xs) (page_within data' n some here ∙ ap (take 4096) (sym (drop-drop (4096 * n) data'.offset data'.body)))
+    ∙ sym (take-add (4096 * n) 4096 (drop data'.offset data'.body))
+    ∙ ap (λ k. take k (drop data'.offset data'.body)) (omega arith)
+
+pub data_within : (data' : Data) → (data'.offset == 0) ≡ false → data'.offset + 4096 * data'.pages ≤ length data'.body
+    → data_bytes data' ≡ slice data'.body data'.offset (4096 * data'.pages)
+unfolding data_bytes
+data_within data' some within = rows_within data' data'.pages some within

@@ -1,0 +1,176 @@
+-- No rule but the one on data outside the file looks at a header's file offset.
+use Rattle.std.proofs.Common.{◌≡◌, ℕ, ◌+◌, ◌<◌, List, [], ◌∷◌, ◌++◌, length, map, fold, refl, sym, ◌∙◌, ap, ap₂, arith, Option, Some, None, Bool, true, false}
+use Rattle.std.specs.Prelude.{if◌then◌else◌, ◌==◌, max}
+use Rattle.std.specs.Option.{option_to_list}
+use Rattle.std.specs.List.{cons_option}
+use Rattle.igvm_headers.specs.declared.header.Header.{Header}
+use Rattle.igvm_headers.specs.declared.header.Header.TheVariants.{Platform, Area, Page, Insert, Context}
+use Rattle.igvm_headers.specs.declared.fault.ReadWhat.{ReadWhat}
+use Rattle.igvm_headers.specs.declared.fault.ReadWhat.TheVariants.{Order, Mask, Align, AreaLimit, AreaRepeated, AreaUnknown, AreaSize, Wrap, DataOutside, TooManyPages}
+use Rattle.platform_masks.specs.Platforms.{platform_of, platforms_from, platforms_of}
+use Rattle.igvm_image.specs.declared.area_table.AreaEntry.{AreaEntry}
+use Rattle.igvm_image.specs.Areas.{area_entry, areas_of}
+use Rattle.igvm_image.specs.Rules.{Seen, seen_of, class_of, latest_class, pages_of, named_from, rule_fault, breaks_order, breaks_mask, breaks_align, breaks_area_limit, breaks_area_repeated, breaks_area_unknown, breaks_area_size, breaks_wrap, breaks_data, breaks_pages}
+use Rattle.igvm_image.proofs.Walking.{not_chosen}
+use Rattle.component_list.specs.Components.{offset_of, with_offset}
+
+class_same : (at : ℕ) (h : Header) → class_of (with_offset at h) ≡ class_of h
+class_same at (Area bytes area offset) = refl
+class_same at (Page gpa mask offset large unmeasured kind) = refl
+class_same at (Context gpa mask offset vp) = refl
+class_same at h = refl
+
+platform_same : (at n : ℕ) (h : Header) → platform_of n (with_offset at h) ≡ platform_of n h
+platform_same at n (Area bytes area offset) = refl
+platform_same at n (Page gpa mask offset large unmeasured kind) = refl
+platform_same at n (Context gpa mask offset vp) = refl
+platform_same at n h = refl
+
+area_same : (at : ℕ) (h : Header) → area_entry (with_offset at h) ≡ area_entry h
+area_same at (Area bytes area offset) = refl
+area_same at (Page gpa mask offset large unmeasured kind) = refl
+area_same at (Context gpa mask offset vp) = refl
+area_same at h = refl
+
+pages_same : (at : ℕ) (areas : List AreaEntry) (h : Header) → pages_of areas (with_offset at h) ≡ pages_of areas h
+pages_same at areas (Area bytes area offset) = refl
+pages_same at areas (Page gpa mask offset large unmeasured kind) = refl
+pages_same at areas (Context gpa mask offset vp) = refl
+pages_same at areas h = refl
+
+latest_same : (at n : ℕ) (hs : List Header)
+    → fold (λ latest header. max latest (class_of header)) n (map (with_offset at) hs)
+    ≡ fold (λ latest header. max latest (class_of header)) n hs
+latest_same at n [] = refl
+latest_same at n (h ∷ hs) =
+    latest_same at (max n (class_of (with_offset at h))) hs
+    ∙ ap (λ c. fold (λ latest header. max latest (class_of header)) (max n c) hs) (class_same at h)
+
+platforms_same : (at n : ℕ) (hs : List Header) → platforms_from n (map (with_offset at) hs) ≡ platforms_from n hs
+unfolding platforms_from
+platforms_same at n [] = refl
+platforms_same at n (h ∷ hs) =
+    ap (λ ps. ps ++ platforms_from (n + length ps) (map (with_offset at) hs)) (platform_same at n h)
+    ∙ ap (λ ps. platform_of n h ++ ps) (platforms_same at (n + length (platform_of n h)) hs)
+
+areas_same : (at : ℕ) (hs : List Header) → areas_of (map (with_offset at) hs) ≡ areas_of hs
+areas_same at [] = refl
+areas_same at (h ∷ hs) =
+    ap (λ e. cons_option e (areas_of (map (with_offset at) hs))) (area_same at h)
+    ∙ ap (cons_option (area_entry h)) (areas_same at hs)
+
+named_same : (at : ℕ) (areas : List AreaEntry) (hs : List Header) → named_from areas (map (with_offset at) hs) ≡ named_from areas hs
+named_same at areas [] = refl
+named_same at areas (h ∷ hs) =
+    ap₂ (λ n e. n + named_from (areas ++ option_to_list e) (map (with_offset at) hs)) (pages_same at areas h) (area_same at h)
+    ∙ ap (λ n. pages_of areas h + n) (named_same at (areas ++ option_to_list (area_entry h)) hs)
+
+-- what the rules ask of headers
+pub seen_same : (at : ℕ) (hs : List Header) → seen_of (map (with_offset at) hs) ≡ seen_of hs
+seen_same at hs =
+    let latest = latest_same at 0 hs in
+    let platforms = platforms_same at 0 hs in
+    let areas = areas_same at hs in
+    let pages = named_same at [] hs in
+    cc
+
+-- the rules but the one on data
+record SameRules (at : ℕ) (seen : Seen) (h : Header) : Type 0 where
+  pub order : breaks_order seen (with_offset at h) ≡ breaks_order seen h
+  pub mask : breaks_mask seen (with_offset at h) ≡ breaks_mask seen h
+  pub align : breaks_align (with_offset at h) ≡ breaks_align h
+  pub limit : breaks_area_limit seen (with_offset at h) ≡ breaks_area_limit seen h
+  pub repeated : breaks_area_repeated seen (with_offset at h) ≡ breaks_area_repeated seen h
+  pub unknown : breaks_area_unknown seen (with_offset at h) ≡ breaks_area_unknown seen h
+  pub size : breaks_area_size (with_offset at h) ≡ breaks_area_size h
+  pub wrap : breaks_wrap seen (with_offset at h) ≡ breaks_wrap seen h
+  pub pages : breaks_pages seen (with_offset at h) ≡ breaks_pages seen h
+
+same_rules : (at : ℕ) (seen : Seen) (h : Header) → SameRules at seen h
+same_rules at seen (Area bytes area offset) = record { order = refl; mask = refl; align = refl; limit = refl; repeated = refl; unknown = refl; size = refl; wrap = refl; pages = refl }
+same_rules at seen (Page gpa mask offset large unmeasured kind) = record { order = refl; mask = refl; align = refl; limit = refl; repeated = refl; unknown = refl; size = refl; wrap = refl; pages = refl }
+same_rules at seen (Context gpa mask offset vp) = record { order = refl; mask = refl; align = refl; limit = refl; repeated = refl; unknown = refl; size = refl; wrap = refl; pages = refl }
+same_rules at seen h = record { order = refl; mask = refl; align = refl; limit = refl; repeated = refl; unknown = refl; size = refl; wrap = refl; pages = refl }
+
+-- a header that breaks none of the rules, one by one
+pub record KeepsRules (total : ℕ) (seen : Seen) (h : Header) : Type 0 where
+  pub order : breaks_order seen h ≡ false
+  pub mask : breaks_mask seen h ≡ false
+  pub align : breaks_align h ≡ false
+  pub limit : breaks_area_limit seen h ≡ false
+  pub repeated : breaks_area_repeated seen h ≡ false
+  pub unknown : breaks_area_unknown seen h ≡ false
+  pub size : breaks_area_size h ≡ false
+  pub wrap : breaks_wrap seen h ≡ false
+  pub outside : breaks_data total h ≡ false
+  pub pages : breaks_pages seen h ≡ false
+
+pub keeps_rules : (total : ℕ) (seen : Seen) (h : Header) → rule_fault total seen h ≡ None → KeepsRules total seen h
+unfolding rule_fault
+keeps_rules total seen h none =
+    let order = not_chosen (breaks_order seen h) Order _ none in
+    let mask = not_chosen (breaks_mask seen h) Mask _ order.1 in
+    let align = not_chosen (breaks_align h) Align _ mask.1 in
+    let limit = not_chosen (breaks_area_limit seen h) AreaLimit _ align.1 in
+    let repeated = not_chosen (breaks_area_repeated seen h) AreaRepeated _ limit.1 in
+    let unknown = not_chosen (breaks_area_unknown seen h) AreaUnknown _ repeated.1 in
+    let size = not_chosen (breaks_area_size h) AreaSize _ unknown.1 in
+    let wrap = not_chosen (breaks_wrap seen h) Wrap _ size.1 in
+    let outside = not_chosen (breaks_data total h) DataOutside _ wrap.1 in
+    let pages = not_chosen (breaks_pages seen h) TooManyPages None outside.1 in
+    record {
+      order = order.0;
+      mask = mask.0;
+      align = align.0;
+      limit = limit.0;
+      repeated = repeated.0;
+      unknown = unknown.0;
+      size = size.0;
+      wrap = wrap.0;
+      outside = outside.0;
+      pages = pages.0;
+    }
+
+pub passed_over : (b : Bool) (what : ReadWhat) (rest : Option ReadWhat) → b ≡ false → rest ≡ None → (if b then Some what else rest) ≡ None
+passed_over true what rest kept none = cc
+passed_over false what rest kept none = none
+
+pub rules_none : (total : ℕ) (seen : Seen) (h : Header) → KeepsRules total seen h → rule_fault total seen h ≡ None
+unfolding rule_fault
+rules_none total seen h k =
+    passed_over _ _ _ k.order
+    (passed_over _ _ _ k.mask
+    (passed_over _ _ _ k.align
+    (passed_over _ _ _ k.limit
+    (passed_over _ _ _ k.repeated
+    (passed_over _ _ _ k.unknown
+    (passed_over _ _ _ k.size
+    (passed_over _ _ _ k.wrap
+    (passed_over _ _ _ k.outside
+    (passed_over _ _ _ k.pages refl)))))))))
+
+-- the same rules at another file offset and in a file of another size
+pub rules_at : (total other at : ℕ) (seen : Seen) (h : Header) → rule_fault total seen h ≡ None
+    → breaks_data other (with_offset at h) ≡ false → rule_fault other seen (with_offset at h) ≡ None
+rules_at total other at seen h none inside =
+    let kept = keeps_rules total seen h none in
+    let same = same_rules at seen h in
+    rules_none other seen (with_offset at h) (record {
+      order = same.order ∙ kept.order;
+      mask = same.mask ∙ kept.mask;
+      align = same.align ∙ kept.align;
+      limit = same.limit ∙ kept.limit;
+      repeated = same.repeated ∙ kept.repeated;
+      unknown = same.unknown ∙ kept.unknown;
+      size = same.size ∙ kept.size;
+      wrap = same.wrap ∙ kept.wrap;
+      outside = inside;
+      pages = same.pages ∙ kept.pages;
+    })
+
+-- at file offset 0 no data lie outside
+pub inside_at_0 : (total : ℕ) (h : Header) → breaks_data total (with_offset 0 h) ≡ false
+inside_at_0 total (Area bytes area offset) = refl
+inside_at_0 total (Page gpa mask offset large unmeasured kind) = refl
+inside_at_0 total (Context gpa mask offset vp) = grind arith
+inside_at_0 total h = refl

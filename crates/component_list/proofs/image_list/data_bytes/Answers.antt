@@ -1,0 +1,15 @@
+use Rattle.std.proofs.Common.{◌≡◌, ◌∙◌, ◌++◌, sym, ap, arith}
+use Rattle.std.specs.List.{flat_map, range_with_len}
+use Rattle.igvm_image.specs.Data.{data_page}
+use Rattle.component_list.specs.Images.{data_bytes}
+use Rattle.component_list.proofs.ImageLists.{pages_more}
+use Rattle.component_list.proofs.image_list.data_bytes.Goals as goal
+
+pub pages-preserved : goal.pages-preserved
+pages-preserved c =
+    let more = pages_more c.args.view.now c.pages.k in
+    grind arith
+
+pub returns : goal.returns
+unfolding data_bytes
+returns c = grind arith

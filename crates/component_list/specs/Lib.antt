@@ -1,0 +1,15 @@
+pub mod Components
+pub mod Ranges
+pub mod Lists
+pub mod Images
+pub mod Forms
+pub mod SourceViews
+pub mod Sources
+pub mod Walks
+pub mod Expansion
+pub use Rattle.igvm_outside.specs.Files
+pub use Rattle.igvm_headers.specs.Records
+pub use Rattle.igvm_headers.specs.Causes
+pub use Rattle.igvm_image.specs.Rules
+pub use Rattle.igvm_image.specs.Areas
+pub use Rattle.platform_masks.specs.Platforms

@@ -1,0 +1,94 @@
+//! The values at the keys of an entry.
+ghost use Rattle.std.specs.Prelude.{◌≡◌, ◌≢◌, ◌≤◌, length, option_map, IfOk, Option, List, ℕ, false, replicate};
+ghost use Rattle.serde_json.specs.View.{view};
+ghost use Rattle.serde_json.specs.Find.{as_bool};
+ghost use Rattle.igvm_headers.specs.declared.page_kind.PageKind.TheVariants.{Normal};
+ghost use Rattle.component_list.specs.Forms.{address, file_name, hex_bytes, required, optional};
+ghost use Rattle.component_list.specs.Sources.{byte, short, word, page_kind, some_file};
+
+use crate::source::FileName;
+use crate::{forms, kinds};
+use igvm_headers::{Memory, PageKind};
+use serde_json::Value;
+use std::alloc::Global;
+
+/// A number of 32 bits that must be there.
+pub(crate) fn word(json: &Value, key: &str) -> Option<u32>
+    ensures { result ≡ required word key.now (view json.now) }
+{
+    forms::word(json.get(key)?)
+}
+
+/// A number of 32 bits, 0 where it is missing.
+pub(crate) fn word_or_0(json: &Value, key: &str) -> Option<u32>
+    ensures { result ≡ optional word 0 key.now (view json.now) }
+{
+    match json.get(key) {
+        None => Some(0),
+        Some(found) => forms::word(found),
+    }
+}
+
+/// A number of 16 bits that must be there.
+pub(crate) fn short(json: &Value, key: &str) -> Option<u16>
+    ensures { result ≡ required short key.now (view json.now) }
+{
+    forms::short(json.get(key)?)
+}
+
+/// A number of 16 bits, 1 where it is missing.
+pub(crate) fn short_or_1(json: &Value, key: &str) -> Option<u16>
+    ensures { result ≡ optional short 1 key.now (view json.now) }
+{
+    match json.get(key) {
+        None => Some(1),
+        Some(found) => forms::short(found),
+    }
+}
+
+/// A number of 8 bits, 0 where it is missing.
+pub(crate) fn byte_or_0(json: &Value, key: &str) -> Option<u8>
+    ensures { result ≡ optional byte 0 key.now (view json.now) }
+{
+    match json.get(key) {
+        None => Some(0),
+        Some(found) => forms::byte(found),
+    }
+}
+
+/// An address that must be there.
+pub(crate) fn address(json: &Value, key: &str) -> Option<u64>
+    ensures { result ≡ required address key.now (view json.now) }
+{
+    forms::address(json.get(key)?)
+}
+
+/// An address, 0 where it is missing.
+pub(crate) fn address_or_0(json: &Value, key: &str) -> Option<u64>
+    ensures { result ≡ optional address 0 key.now (view json.now) }
+{
+    match json.get(key) {
+        None => Some(0),
+        Some(found) => forms::address(found),
+    }
+}
+
+/// A truth value, false where it is missing.
+pub(crate) fn truth(json: &Value, key: &str) -> Option<bool>
+    ensures { result ≡ optional as_bool false key.now (view json.now) }
+{
+    match json.get(key) {
+        None => Some(false),
+        Some(found) => found.as_bool(),
+    }
+}
+
+/// A page kind, normal where it is missing.
+pub(crate) fn page_kind(json: &Value, key: &str) -> Option<PageKind>
+    ensures { result ≡ optional page_kind Normal key.now (view json.now) }
+{
+    match json.get(key) {
+        None => Some(PageKind::Normal),
+        Some(found) => kinds::page_kind(found),
+    }
+}

@@ -1,0 +1,136 @@
+//! The rules on the components of a list, in their order: docs/LIST.md has them in words.
+ghost use Rattle.std.specs.Prelude.{◌≡◌, ◌<◌, ◌≤◌, ◌^◌, Some, None, length, if◌then◌else◌, OnOk, IfErr};
+ghost use Rattle.std.specs.List.{AllByRecursion};
+ghost use Rattle.igvm_headers.specs.Records.{is_carried};
+ghost use Rattle.component_list.specs.Components.{offset_of, is_unknown, carried_kind, tail_size, fills, is_nothing, fits_content, breaks_length, breaks_data_type};
+ghost use Rattle.component_list.specs.Ranges.{IsComponent};
+ghost use Rattle.component_list.specs.Lists.{component_fault, list_fault, IsValid};
+
+use crate::component::{Component, Content};
+use crate::list_fault::ListFault;
+use crate::ranges::note_component;
+use crate::table::Table;
+use igvm_headers::{Header, PageKind, ReadWhat};
+
+/// The bytes of an ID block that are carried unread.
+const ID_BLOCK_TAIL: u32 = 592;
+
+/// The first fault of a list of components.
+pub(crate) fn judge(parts: &[Component]) -> Result<(), ListFault>
+    requires few { length parts.now < 2 ^ 32 }
+    requires offsets { AllByRecursion (λ c. offset_of c.header ≡ 0) parts.now }
+    ensures valid { OnOk result (IsValid parts.now) }
+    ensures fault { IfErr result (λ e. list_fault parts.now ≡ Some e) }
+{
+    let mut table = Table::new();
+    'parts: for (place, component) in parts.iter().enumerate() {
+        note_component(component);
+        if let Some(what) = component_fault(&table, component) {
+            let place = place as u32;
+            return Err(ListFault { place, what });
+        }
+        table.push(&component.header);
+    }
+    if table.platforms().count() == 0 {
+        let place = parts.len() as u32;
+        let what = ReadWhat::NoPlatform;
+        return Err(ListFault { place, what });
+    }
+    Ok(())
+}
+
+/// The first rule that a component breaks behind those of a table.
+#[tactic(auto, unfolding(crate::specs::Lists::component_fault))]
+fn component_fault(table: &Table, component: &Component) -> Option<ReadWhat>
+    requires pages { table.now.pages ≤ 4194304 }
+    requires offset { offset_of component.now.header ≡ 0 }
+    ensures { result ≡ component_fault table.now component.now }
+{
+    if let Some(kind) = unknown_kind(&component.header) {
+        return Some(ReadWhat::UnknownType { kind });
+    }
+    if breaks_length(component) {
+        return Some(ReadWhat::Length);
+    }
+    if breaks_data_type(&component.header) {
+        return Some(ReadWhat::DataType);
+    }
+    table.rule_fault(&component.header)
+}
+
+/// The type of a header that is neither known nor carried unread.
+fn unknown_kind(header: &Header) -> Option<u32>
+    ensures { result
+        ≡ (if is_unknown header.now then Some (carried_kind header.now) else None) }
+{
+    match header {
+        Header::Carried { kind, .. } => if is_carried(*kind) { None } else { Some(*kind) },
+        _ => None,
+    }
+}
+
+/// A type that is carried as bytes.
+fn is_carried(kind: u32) -> bool
+    ensures { result ≡ is_carried kind }
+{
+    kind == 0x102 || kind == 0x103 || kind == 0x311 || kind >= 0x8000_0000
+}
+
+/// The tail or the content has another size than the header's.
+fn breaks_length(component: &Component) -> bool
+    ensures { result ≡ breaks_length component.now }
+{
+    let tail = component.tail.bytes().len();
+    tail != tail_size(&component.header) as usize
+        || !fits_content(&component.header, &component.content)
+}
+
+/// How many bytes a header's record carries unread.
+fn tail_size(header: &Header) -> u32
+    ensures { result ≡ tail_size header.now }
+{
+    match header {
+        Header::IdBlock { .. } => ID_BLOCK_TAIL,
+        Header::Carried { length, .. } => *length,
+        _ => 0,
+    }
+}
+
+/// The content is of the header's size, or there is none where the header has no data.
+fn fits_content(header: &Header, content: &Content) -> bool
+    ensures { result ≡ fits_content header.now content.now }
+{
+    match header {
+        Header::Area { bytes, .. } => fills(*bytes, content),
+        Header::Page { large, .. } => fills(if *large { 2_097_152 } else { 4096 }, content),
+        Header::Context { .. } => fills(4096, content),
+        _ => is_nothing(content),
+    }
+}
+
+/// Data of this size are all zeros, or exactly so many bytes.
+fn fills(size: u64, content: &Content) -> bool
+    ensures { result ≡ fills size content.now }
+{
+    match content {
+        Content::Nothing => false,
+        Content::Zero => true,
+        Content::Bytes(blob) => blob.bytes().len() as u64 == size,
+    }
+}
+
+fn is_nothing(content: &Content) -> bool
+    ensures { result ≡ is_nothing content.now }
+{
+    matches!(content, Content::Nothing)
+}
+
+/// A 2 MB page is not a normal one.
+fn breaks_data_type(header: &Header) -> bool
+    ensures { result ≡ breaks_data_type header.now }
+{
+    match header {
+        Header::Page { large, kind, .. } => *large && !matches!(kind, PageKind::Normal),
+        _ => false,
+    }
+}

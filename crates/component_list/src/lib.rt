@@ -1,0 +1,40 @@
+//! Component lists of IGVM images: from parts, from their JSON, and from images.
+#![tactic(auto)]
+
+mod area_table;
+mod blob;
+mod component;
+mod directives;
+mod expanding;
+mod fields;
+mod forms;
+mod id_block;
+mod image_list;
+mod judging;
+mod kinds;
+mod laws;
+mod list;
+mod list_fault;
+mod offsets;
+mod plain_entries;
+mod progress;
+mod ranges;
+mod reading;
+mod refusal;
+mod runs;
+mod slices;
+mod source;
+mod table;
+#[cfg(test)]
+mod tests;
+
+pub use blob::Blob;
+pub use component::{Component, Content};
+pub use expanding::expand;
+pub use image_list::components_of;
+pub use laws::{data_are_a_slice, image_lists_are_valid, offsets_do_not_count};
+pub use list::ComponentList;
+pub use list_fault::ListFault;
+pub use reading::read_list;
+pub use refusal::{ExpandRefusal, ListPart, ListRefusal};
+pub use source::{Directive, FileName, ListSource, PageRun};

@@ -1,0 +1,196 @@
+//! Component lists: JSON (RFC 8259) of the form that docs/LIST.md gives.
+ghost use Rattle.std.specs.Prelude.{◌≡◌, ◌≢◌, ◌≤◌, length, codes, option_map, None, Some, Ok, Err, IfOk, IfErr, IfSome};
+ghost use Rattle.serde_json.specs.Data.{no_items};
+ghost use Rattle.serde_json.specs.View.{view, items_view};
+ghost use Rattle.component_list.specs.Forms.{required, optional};
+ghost use Rattle.component_list.specs.Sources.{arrays_of, directive_entry, entries, entries_of, json_of, platform_entry, policy_entry, source_from, source_of};
+ghost use Rattle.component_list.specs.Walks.{arrays_view};
+
+use crate::directives::directive_entry;
+use crate::forms::has_only;
+use crate::plain_entries::{platform_entry, policy_entry};
+use crate::refusal::{ListPart, ListRefusal};
+use crate::source::{Directive, ListSource};
+use igvm_headers::Header;
+use serde_json::Value;
+use std::alloc::Global;
+
+/// The most entries of a list.
+const MOST_ENTRIES: usize = 16_777_216;
+
+/// The arrays of a list.
+#[derive(Clone, Copy)]
+pub(crate) struct Arrays<'a> {
+    pub platforms: &'a [Value],
+    pub policies: &'a [Value],
+    pub directives: &'a [Value],
+}
+
+/// What a component list says, or its first refusal.
+#[tactic(auto, unfolding(crate::specs::Sources::source_of))]
+pub fn read_list(alloc: Global, bytes: &[u8]) -> Result<ListSource, ListRefusal>
+    requires { length bytes.now ≤ 16777216 }
+    ensures source { IfOk result (λ source. source_of bytes.now ≡ Ok source) }
+    ensures refused { IfErr result (λ e. e ≢ ListRefusal.Memory → source_of bytes.now ≡ Err e) }
+{
+    source_from(alloc, &json_of(alloc, bytes)?)
+}
+
+/// The value of a JSON text.
+fn json_of(alloc: Global, bytes: &[u8]) -> Result<Value, ListRefusal>
+    ensures read { IfOk result (λ json. json_of bytes.now ≡ Some (view json)) }
+    ensures refused { IfErr result (λ e. e ≢ ListRefusal.Memory
+        → (e ≡ ListRefusal.NotJson) × (json_of bytes.now ≡ None)) }
+{
+    match Value::from_slice(alloc, bytes) {
+        Ok(json) => Ok(json),
+        Err(e) => {
+            if e.is_memory() {
+                return Err(ListRefusal::Memory);
+            }
+            Err(ListRefusal::NotJson)
+        }
+    }
+}
+
+/// What a JSON value says as a component list.
+#[tactic(auto, unfolding(crate::specs::Sources::source_from))]
+fn source_from(alloc: Global, json: &Value) -> Result<ListSource, ListRefusal>
+    ensures source { IfOk result (λ source. source_from (view json.now) ≡ Ok source) }
+    ensures refused { IfErr result (λ e. e ≢ ListRefusal.Memory
+        → source_from (view json.now) ≡ Err e) }
+{
+    let Some(arrays) = arrays_of(json) else {
+        return Err(refused(ListPart::Top, 0));
+    };
+    let platforms = platforms(alloc, arrays.platforms)?;
+    let policies = policies(alloc, arrays.policies)?;
+    let directives = directives(alloc, arrays.directives)?;
+    Ok(ListSource::of_entries(platforms, policies, directives))
+}
+
+/// The arrays of an object that has no other keys; `policies` may be missing.
+#[tactic(auto, unfolding(crate::specs::Sources::arrays_of))]
+fn arrays_of(json: &Value) -> Option<Arrays<'_>>
+    ensures arrays { option_map arrays_view result ≡ arrays_of (view json.now) }
+    ensures few { IfSome result (λ a. (length a.platforms.now ≤ 16777216)
+        × (length a.policies.now ≤ 16777216) × (length a.directives.now ≤ 16777216)) }
+{
+    if !has_only(json, &["platforms", "policies", "directives"]) {
+        return None;
+    }
+    let platforms = array_at(json, "platforms")?;
+    let policies = array_or_none(json, "policies")?;
+    let directives = array_at(json, "directives")?;
+    Some(Arrays {
+        platforms,
+        policies,
+        directives,
+    })
+}
+
+fn array_at<'a>(json: &'a Value, key: &str) -> Option<&'a [Value]>
+    ensures array { option_map (λ e. items_view e.now) result
+        ≡ required entries key.now (view json.now) }
+    ensures few { IfSome result (λ e. length e.now ≤ 16777216) }
+{
+    array_of(json.get(key)?)
+}
+
+fn array_or_none<'a>(json: &'a Value, key: &str) -> Option<&'a [Value]>
+    ensures array { option_map (λ e. items_view e.now) result
+        ≡ optional entries no_items key.now (view json.now) }
+    ensures few { IfSome result (λ e. length e.now ≤ 16777216) }
+{
+    match json.get(key) {
+        None => Some(&[]),
+        Some(found) => array_of(found),
+    }
+}
+
+/// An array.
+#[tactic(auto, using(crate::proofs::EntryWalks::items_len_is))]
+fn array_of(json: &Value) -> Option<&[Value]>
+    ensures array { option_map (λ e. items_view e.now) result ≡ entries (view json.now) }
+    ensures few { IfSome result (λ e. length e.now ≤ 16777216) }
+{
+    let items = json.as_array()?.as_slice();
+    if items.len() <= MOST_ENTRIES {
+        Some(items)
+    } else {
+        None
+    }
+}
+
+/// The entries of `platforms`.
+fn platforms(alloc: Global, items: &[Value]) -> Result<Vec<Header>, ListRefusal>
+    requires { length items.now ≤ 16777216 }
+    ensures read { IfOk result (λ headers. entries_of platform_entry ListPart.Platforms
+        (items_view items.now) ≡ Ok headers.items) }
+    ensures refused { IfErr result (λ e. e ≢ ListRefusal.Memory
+        → entries_of platform_entry ListPart.Platforms (items_view items.now) ≡ Err e) }
+    ensures few { IfOk result (λ headers. length headers.items ≤ 16777216) }
+{
+    let mut headers = Vec::new(alloc);
+    'entries: for (number, json) in items.iter().enumerate() {
+        let Some(header) = platform_entry(json) else {
+            return Err(refused(ListPart::Platforms, number as u32));
+        };
+        if headers.push(header).is_err() {
+            return Err(ListRefusal::Memory);
+        }
+    }
+    Ok(headers)
+}
+
+/// The entries of `policies`.
+fn policies(alloc: Global, items: &[Value]) -> Result<Vec<Header>, ListRefusal>
+    requires { length items.now ≤ 16777216 }
+    ensures read { IfOk result (λ headers. entries_of policy_entry ListPart.Policies
+        (items_view items.now) ≡ Ok headers.items) }
+    ensures refused { IfErr result (λ e. e ≢ ListRefusal.Memory
+        → entries_of policy_entry ListPart.Policies (items_view items.now) ≡ Err e) }
+    ensures few { IfOk result (λ headers. length headers.items ≤ 16777216) }
+{
+    let mut headers = Vec::new(alloc);
+    'entries: for (number, json) in items.iter().enumerate() {
+        let Some(header) = policy_entry(json) else {
+            return Err(refused(ListPart::Policies, number as u32));
+        };
+        if headers.push(header).is_err() {
+            return Err(ListRefusal::Memory);
+        }
+    }
+    Ok(headers)
+}
+
+/// The entries of `directives`.
+fn directives(alloc: Global, items: &[Value]) -> Result<Vec<Directive>, ListRefusal>
+    requires { length items.now ≤ 16777216 }
+    ensures read { IfOk result (λ entries. entries_of directive_entry ListPart.Directives
+        (items_view items.now) ≡ Ok entries.items) }
+    ensures refused { IfErr result (λ e. e ≢ ListRefusal.Memory
+        → entries_of directive_entry ListPart.Directives (items_view items.now) ≡ Err e) }
+    ensures few { IfOk result (λ entries. length entries.items ≤ 16777216) }
+{
+    let mut entries = Vec::new(alloc);
+    'entries: for (number, json) in items.iter().enumerate() {
+        let Ok(found) = directive_entry(alloc, json) else {
+            return Err(ListRefusal::Memory);
+        };
+        let Some(entry) = found else {
+            return Err(refused(ListPart::Directives, number as u32));
+        };
+        if entries.push(entry).is_err() {
+            return Err(ListRefusal::Memory);
+        }
+    }
+    Ok(entries)
+}
+
+/// The refusal of an entry.
+fn refused(part: ListPart, item: u32) -> ListRefusal
+    ensures { result ≡ ListRefusal.Field part item }
+{
+    ListRefusal::Field { part, item }
+}
