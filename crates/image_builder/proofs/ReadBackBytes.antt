@@ -1,0 +1,101 @@
+-- What is spelled is bytes.
+use Rattle.std.proofs.Common.{ℕ, zero, suc, ◌^◌, ◌<◌, List, [], ◌∷◌, ◌++◌, length, replicate, arith, lit<}
+use Rattle.std.specs.Int.{byte_at, bytes_low_first}
+use Rattle.byteorder.specs.Endian.{little_bytes}
+use Rattle.igvm_headers.specs.Kinds.{kind_number}
+use Rattle.igvm_headers.specs.Spelling.{page_flags, data_type, header_type, header_fields, header_content, padding_size, reserved, spelled}
+use Rattle.igvm_headers.specs.declared.header.Header.{Header}
+use Rattle.igvm_headers.specs.declared.header.Header.TheVariants.{Platform, Policy, Area, Page, Insert, Param, Context, Required, ErrorRange, IdBlock, Carried}
+use Rattle.component_list.specs.Ranges.{AreBytes, FitsFields}
+
+pub joined : (xs ys : List ℕ) → AreBytes xs → AreBytes ys → AreBytes (xs ++ ys)
+joined [] ys all more = more
+joined (x ∷ xs) ys all more = (all.0, joined xs ys all.1 more)
+
+a_byte : (k x : ℕ) → byte_at k x < 2 ^ 8
+a_byte zero x = omega arith
+a_byte (suc k) x = omega arith
+
+low_bytes : (i n x : ℕ) → AreBytes (bytes_low_first i n x)
+low_bytes i zero x = tt
+low_bytes i (suc n) x = (a_byte i x, low_bytes (suc i) n x)
+
+number_bytes : (n x : ℕ) → AreBytes (little_bytes n x)
+number_bytes n x = low_bytes 0 n x
+
+pub zero_bytes : (n : ℕ) → AreBytes (replicate n 0)
+zero_bytes zero = tt
+zero_bytes (suc n) = (lit< tt, zero_bytes n)
+
+-- a number behind others
+pub behind : (xs : List ℕ) (n x : ℕ) → AreBytes xs → AreBytes (xs ++ little_bytes n x)
+behind xs n x all = joined xs (little_bytes n x) all (number_bytes n x)
+
+-- a reserved field behind others
+zeros_behind : (xs : List ℕ) (n : ℕ) → AreBytes xs → AreBytes (xs ++ reserved n)
+zeros_behind xs n all = joined xs (reserved n) all (zero_bytes n)
+
+fields_bytes : (h : Header) → FitsFields h → AreBytes (header_fields h)
+unfolding header_fields
+fields_bytes (Platform mask highest_vtl kind version shared_gpa) fits =
+    behind (little_bytes 4 mask ++ little_bytes 1 highest_vtl ++ little_bytes 1 (kind_number kind) ++ little_bytes 2 version) 8 shared_gpa
+    (behind (little_bytes 4 mask ++ little_bytes 1 highest_vtl ++ little_bytes 1 (kind_number kind)) 2 version
+    (behind (little_bytes 4 mask ++ little_bytes 1 highest_vtl) 1 (kind_number kind)
+    (behind (little_bytes 4 mask) 1 highest_vtl (number_bytes 4 mask))))
+fields_bytes (Policy policy mask) fits =
+    zeros_behind (little_bytes 8 policy ++ little_bytes 4 mask) 4
+    (behind (little_bytes 8 policy) 4 mask (number_bytes 8 policy))
+fields_bytes (Area bytes area offset) fits =
+    behind (little_bytes 8 bytes ++ little_bytes 4 area) 4 offset
+    (behind (little_bytes 8 bytes) 4 area (number_bytes 8 bytes))
+fields_bytes (Page gpa mask offset large unmeasured kind) fits =
+    let placed = little_bytes 8 gpa ++ little_bytes 4 mask ++ little_bytes 4 offset in
+    zeros_behind (placed ++ little_bytes 4 (page_flags large unmeasured) ++ little_bytes 2 (data_type kind)) 2
+    (behind (placed ++ little_bytes 4 (page_flags large unmeasured)) 2 (data_type kind)
+    (behind placed 4 (page_flags large unmeasured)
+    (behind (little_bytes 8 gpa ++ little_bytes 4 mask) 4 offset
+    (behind (little_bytes 8 gpa) 4 mask (number_bytes 8 gpa)))))
+fields_bytes (Insert gpa mask area) fits =
+    behind (little_bytes 8 gpa ++ little_bytes 4 mask) 4 area
+    (behind (little_bytes 8 gpa) 4 mask (number_bytes 8 gpa))
+fields_bytes (Param kind area byte_offset) fits = behind (little_bytes 4 area) 4 byte_offset (number_bytes 4 area)
+fields_bytes (Context gpa mask offset vp) fits =
+    let placed = little_bytes 8 gpa ++ little_bytes 4 mask ++ little_bytes 4 offset in
+    zeros_behind (placed ++ little_bytes 2 vp) 2
+    (behind placed 2 vp
+    (behind (little_bytes 8 gpa ++ little_bytes 4 mask) 4 offset
+    (behind (little_bytes 8 gpa) 4 mask (number_bytes 8 gpa))))
+fields_bytes (Required gpa mask bytes flags) fits =
+    let placed = little_bytes 8 gpa ++ little_bytes 4 mask ++ little_bytes 4 bytes in
+    zeros_behind (placed ++ little_bytes 4 flags) 4
+    (behind placed 4 flags
+    (behind (little_bytes 8 gpa ++ little_bytes 4 mask) 4 bytes
+    (behind (little_bytes 8 gpa) 4 mask (number_bytes 8 gpa))))
+fields_bytes (ErrorRange gpa mask bytes) fits =
+    behind (little_bytes 8 gpa ++ little_bytes 4 mask) 4 bytes
+    (behind (little_bytes 8 gpa) 4 mask (number_bytes 8 gpa))
+fields_bytes (IdBlock mask author_enabled ld family_id image_id version guest_svn id_algorithm author_algorithm) fits =
+    let block = fits.1 in
+    let head = little_bytes 4 mask ++ little_bytes 1 author_enabled ++ reserved 3 in
+    let named = head ++ ld ++ family_id ++ image_id in
+    behind (named ++ little_bytes 4 version ++ little_bytes 4 guest_svn ++ little_bytes 4 id_algorithm) 4 author_algorithm
+    (behind (named ++ little_bytes 4 version ++ little_bytes 4 guest_svn) 4 id_algorithm
+    (behind (named ++ little_bytes 4 version) 4 guest_svn
+    (behind named 4 version
+    (joined (head ++ ld ++ family_id) image_id
+    (joined (head ++ ld) family_id
+    (joined head ld
+    (zeros_behind (little_bytes 4 mask ++ little_bytes 1 author_enabled) 3
+    (behind (little_bytes 4 mask) 1 author_enabled (number_bytes 4 mask)))
+    block.ld_bytes) block.family_bytes) block.image_bytes))))
+fields_bytes (Carried kind length') fits = tt
+
+pub spelled_bytes : (h : Header) (tail : List ℕ) → FitsFields h → AreBytes tail → AreBytes (spelled h tail)
+unfolding spelled
+spelled_bytes h tail fits all =
+    let front = little_bytes 4 (header_type h) ++ little_bytes 4 (length (header_content h tail)) in
+    joined (front ++ header_content h tail) (replicate (padding_size (length (header_content h tail))) 0)
+    (joined front (header_content h tail)
+    (behind (little_bytes 4 (header_type h)) 4 (length (header_content h tail)) (number_bytes 4 (header_type h)))
+    (joined (header_fields h) tail (fields_bytes h fits) all))
+    (zero_bytes (padding_size (length (header_content h tail))))

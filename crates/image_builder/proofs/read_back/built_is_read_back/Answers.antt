@@ -1,0 +1,26 @@
+use Rattle.image_builder.proofs.ReadBack.{Laws, accepted_back, parts_back}
+use Rattle.image_builder.proofs.read_back.built_is_read_back.Goals as goal
+
+laws : goal.After-offsets_do_not_count → Laws
+laws c = record {
+  piece = record {
+    kind = c.spelled_is_a_piece.ensures.kind;
+    size = c.spelled_is_a_piece.ensures.size;
+    content = c.spelled_is_a_piece.ensures.content;
+    padded = c.spelled_is_a_piece.ensures.padded;
+    behind = c.spelled_is_a_piece.ensures.behind;
+  };
+  read = record { header = c.spelled_is_read.ensures.header; tail = c.spelled_is_read.ensures.tail };
+  offsets = record {
+    seen = c.offsets_do_not_count.ensures.seen;
+    rules = c.offsets_do_not_count.ensures.rules;
+    inside = c.offsets_do_not_count.ensures.inside;
+  };
+  split = c.one_split.ensures.one;
+}
+
+pub returns-clause-accepted : goal.returns-clause-accepted
+returns-clause-accepted c = λ parts valid within. accepted_back (laws c) parts (record { valid = valid; within = within })
+
+pub returns-clause-list : goal.returns-clause-list
+returns-clause-list c = λ parts valid within. parts_back (laws c) parts (record { valid = valid; within = within })

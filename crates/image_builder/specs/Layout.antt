@@ -1,0 +1,70 @@
+-- The file that a list is built into: the fixed header, the headers, and each content once; docs/FORMAT.md.
+use Rattle.std.specs.Prelude.{ℕ, ◌+◌, List, [], ◌∷◌, ◌++◌, length, sum_by, replicate}
+use Rattle.std.specs.List.{concat, flat_map}
+use Rattle.byteorder.specs.Endian.{little_bytes}
+use Rattle.igvm_headers.specs.Checksum.{crc}
+use Rattle.igvm_headers.specs.Spelling.{spelled}
+use Rattle.component_list.specs.declared.component.Component.{Component}
+use Rattle.component_list.specs.declared.component.Content.{Content}
+use Rattle.component_list.specs.declared.component.Content.TheVariants.{Nothing, Zero, Bytes}
+use Rattle.component_list.specs.Components.{with_offset}
+use Rattle.image_builder.specs.Contents.{contents, distinct, place_of}
+
+-- the bytes that a header takes in the section; where its data stand changes nothing of it
+abbrev pub spelled_size : Component → ℕ
+spelled_size c = length (spelled c.header c.tail)
+
+unfoldable pub section_size : List Component → ℕ
+section_size parts = sum_by spelled_size parts
+
+-- the data stand behind the fixed header and the section
+abbrev pub data_start : List Component → ℕ
+data_start parts = 24 + section_size parts
+
+-- each content once, in the order of first use
+abbrev pub kept_contents : List Component → List (List ℕ)
+kept_contents parts = distinct (contents parts)
+
+-- where a content stands in a file whose data begin here with these contents; 0 where the file holds none of it
+abbrev pub offset_among : ℕ → List (List ℕ) → Content → ℕ
+offset_among start kept Nothing = 0
+offset_among start kept Zero = 0
+offset_among start kept (Bytes bytes) = start + place_of bytes kept
+
+-- a component's header with its place, as it is written
+abbrev pub written : ℕ → List (List ℕ) → Component → List ℕ
+written start kept c = spelled (with_offset (offset_among start kept c.content) c.header) c.tail
+
+-- the headers in order, each with the place of its content
+unfoldable pub section : List Component → List ℕ
+section parts = flat_map (written (data_start parts) (kept_contents parts)) parts
+
+-- the contents one behind the other, without gaps
+unfoldable pub data_bytes : List Component → List ℕ
+data_bytes parts = concat (kept_contents parts)
+
+-- the bytes of `IGVM`
+abbrev pub magic : List ℕ
+magic = 0x49 ∷ 0x47 ∷ 0x56 ∷ 0x4D ∷ []
+
+-- the fixed header before its checksum: magic, version 1, the section's offset 24 and size, the total size
+abbrev pub fixed_front : ℕ → ℕ → List ℕ
+fixed_front size total =
+    magic ++ little_bytes 4 1 ++ little_bytes 4 24 ++ little_bytes 4 size ++ little_bytes 4 total
+
+-- the checksum is taken over the fixed header, with zeros in its own place, and the section
+abbrev pub checksum_of : List ℕ → List ℕ → ℕ
+checksum_of front headers = crc (front ++ replicate 4 0 ++ headers)
+
+-- how many bytes the file has
+unfoldable pub layout_size : List Component → ℕ
+layout_size parts = data_start parts + sum_by length (kept_contents parts)
+
+-- a file of these parts
+abbrev pub put_together : List ℕ → List ℕ → List ℕ → List ℕ
+put_together front headers bytes = front ++ little_bytes 4 (checksum_of front headers) ++ headers ++ bytes
+
+-- the file that these components are built into
+unfoldable pub layout : List Component → List ℕ
+layout parts =
+    put_together (fixed_front (section_size parts) (layout_size parts)) (section parts) (data_bytes parts)
