@@ -1,3 +1,5 @@
+pub mod BuildLemmas
+pub mod ErrorLemmas
 pub mod JobLemmas
 pub mod NumberLemmas
 pub mod OutcomeLemmas

@@ -5,7 +5,8 @@ use Rattle.std.specs.FinMap as map
 use Rattle.igvm_outside.specs.Files.{Files, content}
 use Rattle.igvm_image.specs.Reading.{fault_of}
 use Rattle.igvm_tool.specs.declared.status.Status.TheVariants as is
-use Rattle.igvm_tool.specs.declared.refusal.Refusal.TheVariants.{LongFile}
+use Rattle.igvm_tool.specs.declared.refusal.Refusal.TheVariants.{Limit}
+use Rattle.igvm_tool.specs.declared.refusal.LimitOf.TheVariants as of
 use Rattle.igvm_tool.specs.Texts.{long_file_text}
 use Rattle.igvm_tool.specs.Outcome.{Deed, file_outcome, bytes_outcome, image_outcome, refused, file_limit}
 use Rattle.igvm_tool.specs.Refusals.{Gives}
@@ -20,6 +21,6 @@ long_file deed (Some bytes) h =
     ap (λ b. if b then refused is.Limit long_file_text else image_outcome deed bytes (fault_of bytes)) (passes file_limit (length bytes) h)
 
 pub long_told : (told : Option Files) (name : List ℕ) → IfSome told (λ files. file_limit < length (content files name))
-    → IfSome told (λ files. (deed : Deed) → Gives LongFile (file_outcome deed (map.get files name)))
+    → IfSome told (λ files. (deed : Deed) → Gives (Limit of.File) (file_outcome deed (map.get files name)))
 long_told None name h = h
 long_told (Some files) name h = λ deed. long_file deed (map.get files name) h

@@ -9,7 +9,7 @@ use Rattle.std.specs.Str.{all_ascii_digits}
 use Rattle.std.specs.Str.Parse.{digits_value}
 use Rattle.std.proofs.lemmas.Fmt.{decimal_digit, first_decimal, decimal_nonempty, digits_decimal, digits_value-decimal, decimal-digits_value}
 use Rattle.igvm_headers.specs.declared.platform_kind.PlatformKind.TheVariants.{Native, VsmIsolation, SevSnp, Tdx, Sev, SevEs}
-use Rattle.igvm_tool.specs.Words.{Job, Print, Measure, Wanted, First, Numbered, is_text, is_file_name, is_decimal, number_of, wanted_of, print_job, measure_job, job_of}
+use Rattle.igvm_tool.specs.Words.{Job, Build, Print, Measure, Wanted, First, Numbered, is_text, is_file_name, is_decimal, number_of, wanted_of, build_job, print_job, measure_job, job_of}
 use Rattle.igvm_tool.specs.Texts.{wanted_text}
 use Rattle.igvm_tool.specs.Canonical.{IsWanted, IsJob, words_of, Means}
 use Rattle.igvm_tool.proofs.NumberLemmas.{own, both_left, digits_alone, some_digit, all_digits}
@@ -160,6 +160,16 @@ print_forth command file job h =
       same = ap (λ w. w ∷ file ∷ []) (text_same command _ (both_left _ _ c.0));
     })
 
+build_forth : (command list target : List ℕ) (job : Job) → build_job command list target ≡ Some job → Means (command ∷ list ∷ target ∷ []) job
+build_forth command list target job h =
+    let c = chosen _ _ _ h in
+    let both = both_left (is_text command (codes "build") && is_file_name list) _ c.0 in
+    subst (λ j. Means (command ∷ list ∷ target ∷ []) j) c.1
+    (record {
+      possible = (both_right (is_text command (codes "build")) _ both, both_right (is_text command (codes "build") && is_file_name list) _ c.0);
+      same = ap (λ w. w ∷ list ∷ target ∷ []) (text_same command _ (both_left _ _ both));
+    })
+
 measure_forth : (command file option platform : List ℕ) (job : Job) → measure_job command file option platform ≡ Some job
     → Means (command ∷ file ∷ option ∷ platform ∷ []) job
 measure_forth command file option platform job h =
@@ -179,12 +189,14 @@ unfolding job_of
 forth [] job h = cc
 forth (a ∷ []) job h = cc
 forth (a ∷ b ∷ []) job h = print_forth a b job h
-forth (a ∷ b ∷ c ∷ []) job h = cc
+forth (a ∷ b ∷ c ∷ []) job h = build_forth a b c job h
 forth (a ∷ b ∷ c ∷ d ∷ []) job h = measure_forth a b c d job h
 forth (a ∷ b ∷ c ∷ d ∷ e ∷ rest) job h = cc
 
 back_one : (job : Job) → IsJob job → job_of (words_of job) ≡ Some job
 unfolding job_of
+back_one (Build list target) h =
+    ap (λ b. if b && is_file_name target then Some (Build list target) else None) h.0 ∙ ap (λ b. if b then Some (Build list target) else None) h.1
 back_one (Print file) h = ap (λ b. if b then Some (Print file) else None) h
 back_one (Measure file wanted) h =
     ap (λ b. if b && true then option_map (Measure file) (wanted_of (wanted_text wanted)) else None) h.0

@@ -6,6 +6,8 @@ use Rattle.igvm_headers.specs.declared.fault.ReadWhat.TheVariants.{TooShort, Mag
 use Rattle.igvm_headers.specs.declared.platform_kind.PlatformKind.{PlatformKind}
 use Rattle.igvm_headers.specs.Names.{kind_text}
 use Rattle.igvm_tool.specs.Words.{Wanted, First, Numbered}
+use Rattle.component_list.specs.declared.refusal.ListPart.{ListPart}
+use Rattle.component_list.specs.declared.refusal.ListPart.TheVariants.{Top, Platforms, Policies, Directives}
 use Rattle.std.specs.Fmt.{decimal, format_spec, padded_integral, digits}
 use Rattle.hex.specs.Hex.{encode_lower}
 
@@ -58,8 +60,8 @@ fault_text fault =
 
 abbrev pub usage_text : List ℕ
 usage_text =
-    line (codes "usage: igvm print FILE") ++ line (codes "       igvm measure FILE --platform P")
-    ++ line (codes "P is snp, tdx or a platform number")
+    line (codes "usage: igvm build LIST OUT") ++ line (codes "       igvm print FILE")
+    ++ line (codes "       igvm measure FILE --platform P") ++ line (codes "P is snp, tdx or a platform number")
 
 abbrev pub shelf_text : List ℕ
 shelf_text = line (codes "igvm: outside fault: shelf")
@@ -87,3 +89,38 @@ long_file_text = line (codes "igvm: limit: file")
 -- a digest's 96 digits
 abbrev pub digest_text : List ℕ → List ℕ
 digest_text digest = line (encode_lower digest)
+
+abbrev pub long_list_text : List ℕ
+long_list_text = line (codes "igvm: limit: list")
+
+abbrev pub long_blob_text : List ℕ
+long_blob_text = line (codes "igvm: limit: blob")
+
+abbrev pub large_data_text : List ℕ
+large_data_text = line (codes "igvm: limit: data")
+
+abbrev pub large_image_text : List ℕ
+large_image_text = line (codes "igvm: limit: image")
+
+abbrev pub not_json_text : List ℕ
+not_json_text = line (codes "igvm: json refused")
+
+abbrev pub part_text : ListPart → List ℕ
+part_text Top = codes "top"
+part_text Platforms = codes "platforms"
+part_text Policies = codes "policies"
+part_text Directives = codes "directives"
+
+-- an entry that has not its form
+abbrev pub field_text : ListPart → ℕ → List ℕ
+field_text part item = codes "igvm: json refused: " ++ (part_text part ++ (codes " " ++ (decimal item ++ 10 ∷ [])))
+
+-- an entry that breaks a rule of images
+abbrev pub entry_text : ListPart → ℕ → ReadWhat → List ℕ
+entry_text part item what =
+    codes "igvm: json refused: "
+    ++ (part_text part ++ (codes " " ++ (decimal item ++ (codes ": " ++ (what_text what ++ 10 ∷ [])))))
+
+-- how many bytes were written
+abbrev pub built_text : ℕ → List ℕ
+built_text bytes = codes "built " ++ (decimal bytes ++ (codes " bytes" ++ 10 ∷ []))

@@ -14,6 +14,7 @@ pub data Wanted : Type 0 where
 
 -- what the program is asked to do
 pub data Job : Type 0 where
+  Build : (list target : List ℕ) → Job
   Print : (file : List ℕ) → Job
   Measure : (file : List ℕ) (wanted : Wanted) → Job
 
@@ -44,6 +45,12 @@ wanted_of word =
     if is_text word (codes "snp") then Some (First SevSnp)
     else (if is_text word (codes "tdx") then Some (First Tdx) else option_map Numbered (number_of word))
 
+-- `build LIST OUT`
+abbrev pub build_job : List ℕ → List ℕ → List ℕ → Option Job
+build_job command list target =
+    if is_text command (codes "build") && is_file_name list && is_file_name target
+    then Some (Build list target) else None
+
 -- `print FILE`
 abbrev pub print_job : List ℕ → List ℕ → Option Job
 print_job command file = if is_text command (codes "print") && is_file_name file then Some (Print file) else None
@@ -57,5 +64,6 @@ measure_job command file option platform =
 -- the job that these words mean, if they mean one
 unfoldable pub job_of : List (List ℕ) → Option Job
 job_of (command ∷ file ∷ []) = print_job command file
+job_of (command ∷ list ∷ target ∷ []) = build_job command list target
 job_of (command ∷ file ∷ option ∷ platform ∷ []) = measure_job command file option platform
 job_of _ = None

@@ -1,7 +1,7 @@
 //! Which job the words ask for.
 ghost use Rattle.std.specs.Prelude.{◌≡◌, ◌==◌};
 ghost use Rattle.std.specs.Option.{option_map};
-ghost use Rattle.igvm_tool.specs.Words.{job_of, is_text, is_file_name, print_job, measure_job};
+ghost use Rattle.igvm_tool.specs.Words.{job_of, is_text, is_file_name, build_job, print_job, measure_job};
 ghost use Rattle.igvm_tool.specs.JobView.{job_view};
 
 use crate::wanted::{Wanted, wanted_of};
@@ -10,6 +10,8 @@ use crate::words::{Words, is_text};
 /// What the program is asked to do.
 #[derive(Clone, Copy)]
 pub enum Job<'a> {
+    /// `build LIST OUT`
+    Build { list: &'a str, target: &'a str },
     /// `print FILE`
     Print { file: &'a str },
     /// `measure FILE --platform P`
@@ -23,8 +25,20 @@ pub fn job_of(words: &Words) -> Option<Job<'_>>
 {
     match words.len() {
         2 => print_job(words.word(0), words.word(1)),
+        3 => build_job(words.word(0), words.word(1), words.word(2)),
         4 => measure_job(words.word(0), words.word(1), words.word(2), words.word(3)),
         _ => None,
+    }
+}
+
+/// `build LIST OUT`, word by word.
+fn build_job<'a>(command: &str, list: &'a str, target: &'a str) -> Option<Job<'a>>
+    ensures { option_map job_view result ≡ build_job command.now list.now target.now }
+{
+    if is_text(command, "build") && is_file_name(list) && is_file_name(target) {
+        Some(Job::Build { list, target })
+    } else {
+        None
     }
 }
 

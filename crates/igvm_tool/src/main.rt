@@ -1,6 +1,7 @@
-//! Prints and measures IGVM images: docs/PROGRAM.md.
+//! Builds, prints and measures IGVM images: docs/PROGRAM.md.
 #![tactic(auto)]
 
+mod building;
 mod job;
 mod laws;
 mod measuring;

@@ -8,7 +8,7 @@ ghost use Rattle.igvm_tool.specs.JobView.{wanted_view};
 ghost use Rattle.igvm_tool.specs.Texts.{digest_text};
 ghost use Rattle.igvm_tool.specs.Outcome.{Measured, outcome, bytes_outcome, deed_outcome, done, wanted_platform, first_platform, numbered_platform, platform_digest, digest_outcome, file_limit};
 ghost use Rattle.igvm_tool.specs.Refusals.{Gives, HasText, HasCauseIn, IsInside, LeavesOutput};
-ghost use Rattle.igvm_tool.specs.Clauses.{StatusIsTrue, UsageIsExact, OutputIsKept, ErrorTextIsPut, FilesAreKept, FaultsHaveCauses, ReadsRose, IsPut};
+ghost use Rattle.igvm_tool.specs.Clauses.{StatusIsTrue, UsageIsExact, OutputIsKept, ErrorTextIsPut, FilesAreKept, FaultsHaveCauses, ShelfRose, IsPut};
 
 use crate::opening::{judge, read_image};
 use crate::refusal::{Refusal, finish};
@@ -37,16 +37,17 @@ pub fn measure<S: Shelf, O: Sink, E: Sink>(
         shelf.old shelf.new out.old out.new }
     ensures output { OutputIsKept (S.told shelf.old) (Some (Measure file.now (wanted_view wanted))) result
         (O.bytes out.old) (O.bytes out.new) (O.faults out.old) (O.faults out.new) }
-    ensures error { ErrorTextIsPut (S.told shelf.old) (Some (Measure file.now (wanted_view wanted))) result
+    ensures error { ErrorTextIsPut (S.told shelf.old) (S.given shelf.new) (Some (Measure file.now (wanted_view wanted))) result
         (IsPut (E.bytes err.old) (E.bytes err.new) (E.faults err.old) (E.faults err.new))
         (E.bytes err.new ≡ E.bytes err.old)
-        (ReadsRose (Some (Measure file.now (wanted_view wanted)))
-        (S.read_faults shelf.old) (S.read_faults shelf.new))
+        (ShelfRose (S.told shelf.old) (Some (Measure file.now (wanted_view wanted))) (S.read_faults shelf.old)
+        (S.read_faults shelf.new) (S.write_faults shelf.old) (S.write_faults shelf.new))
         (Rose (O.faults out.old) (O.faults out.new)) }
-    ensures files { FilesAreKept (S.told shelf.old) (S.told shelf.new) (S.state shelf.old) (S.state shelf.new) }
+    ensures files { FilesAreKept (S.told shelf.old) (S.told shelf.new) (Some (Measure file.now (wanted_view wanted))) result
+        (S.state shelf.old) (S.state shelf.new) }
     ensures faults { FaultsHaveCauses (Some (Measure file.now (wanted_view wanted))) result
-        (ReadsRose (Some (Measure file.now (wanted_view wanted)))
-        (S.read_faults shelf.old) (S.read_faults shelf.new))
+        (ShelfRose (S.told shelf.old) (Some (Measure file.now (wanted_view wanted))) (S.read_faults shelf.old)
+        (S.read_faults shelf.new) (S.write_faults shelf.old) (S.write_faults shelf.new))
         (Rose (O.faults out.old) (O.faults out.new)) }
 {
     let end = put_digest(alloc, file, wanted, shelf, out);
@@ -68,7 +69,7 @@ fn put_digest<S: Shelf, O: Sink>(
     ensures refused { IfErr result (λ refusal. IfSome (S.told shelf.old) (λ files.
         Gives refusal (outcome (Some (Measure file.now (wanted_view wanted))) files))) }
     ensures text { IfErr result HasText }
-    ensures cause { IfErr result (λ refusal. HasCauseIn refusal
+    ensures cause { IfErr result (λ refusal. HasCauseIn (Some (Measure file.now (wanted_view wanted))) refusal
         (Rose (S.read_faults shelf.old file.now) (S.read_faults shelf.new file.now))
         (Rose (O.faults out.old) (O.faults out.new)) (S.given shelf.new)) }
     ensures output { IfErr result (λ refusal. LeavesOutput refusal (S.told shelf.old)

@@ -1,13 +1,14 @@
 //! The image of a file: read whole, and judged.
-ghost use Rattle.std.specs.Prelude.{◌≡◌, ◌≤◌, length, Some, None, IfOk, IfErr, IfSome};
+ghost use Rattle.std.specs.Prelude.{◌≡◌, ◌≤◌, length, Some, IfOk, IfErr, IfSome};
 ghost use Rattle.std.specs.FinMap as map;
 ghost use Rattle.igvm_headers.specs.Causes.{Rose};
 ghost use Rattle.igvm_image.specs.Reading.{fault_of};
 ghost use Rattle.igvm_outside.specs.Files.{IsUnwritten};
 ghost use Rattle.igvm_tool.specs.Outcome.{Deed, file_outcome, bytes_outcome, deed_outcome, file_limit};
-ghost use Rattle.igvm_tool.specs.Refusals.{Gives, HasText, HasCauseIn, IsInside};
+ghost use Rattle.igvm_tool.specs.Refusals.{Gives, HasText, HasCauseIn, OpensImage, IsInside};
+ghost use Rattle.igvm_tool.specs.Words.{Job};
 
-use crate::refusal::Refusal;
+use crate::refusal::{LimitOf, Refusal};
 use crate::texts::fault_text;
 use igvm_image::{ImageView, open_image};
 use igvm_outside::{ReadRefusal, Shelf, read_all};
@@ -24,14 +25,14 @@ pub fn read_image<S: Shelf>(alloc: Global, file: &str, shelf: &mut S) -> Result<
     ensures refused { IfErr result (λ refusal. IfSome (S.told shelf.old) (λ files.
         (deed : Deed) → Gives refusal (file_outcome deed (map.get files file.now)))) }
     ensures text { IfErr result HasText }
-    ensures cause { IfErr result (λ refusal. HasCauseIn refusal
+    ensures cause { (job : Job) → OpensImage job → IfErr result (λ refusal. HasCauseIn (Some job) refusal
         (Rose (S.read_faults shelf.old file.now) (S.read_faults shelf.new file.now)) ⊥ (S.given shelf.new)) }
     ensures kept { S.told shelf.new ≡ S.told shelf.old }
     ensures unwritten { IsUnwritten (S.state shelf.new) }
 {
     match read_all(alloc, shelf, file, FILE_LIMIT) {
         Ok(bytes) => Ok(bytes),
-        Err(ReadRefusal::TooLong) => Err(Refusal::LongFile),
+        Err(ReadRefusal::TooLong) => Err(Refusal::Limit(LimitOf::File)),
         Err(ReadRefusal::Failed) => Err(Refusal::Shelf),
         Err(ReadRefusal::Memory) => Err(Refusal::Memory),
     }

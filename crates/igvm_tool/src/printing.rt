@@ -6,7 +6,7 @@ ghost use Rattle.igvm_outside.specs.Outputs.{gained};
 ghost use Rattle.igvm_tool.specs.Words.{Print};
 ghost use Rattle.igvm_tool.specs.Outcome.{Listed, outcome, deed_outcome, done, file_limit};
 ghost use Rattle.igvm_tool.specs.Refusals.{Gives, HasText, HasCauseIn, LeavesOutput};
-ghost use Rattle.igvm_tool.specs.Clauses.{StatusIsTrue, UsageIsExact, OutputIsKept, ErrorTextIsPut, FilesAreKept, FaultsHaveCauses, ReadsRose, IsPut, IsFrontPut};
+ghost use Rattle.igvm_tool.specs.Clauses.{StatusIsTrue, UsageIsExact, OutputIsKept, ErrorTextIsPut, FilesAreKept, FaultsHaveCauses, ShelfRose, IsPut, IsFrontPut};
 
 use crate::opening::{judge, read_image};
 use crate::refusal::{Refusal, finish};
@@ -28,14 +28,17 @@ pub fn print<S: Shelf, O: Sink, E: Sink>(
     ensures usage { UsageIsExact (Some (Print file.now)) result shelf.old shelf.new out.old out.new }
     ensures output { OutputIsKept (S.told shelf.old) (Some (Print file.now)) result
         (O.bytes out.old) (O.bytes out.new) (O.faults out.old) (O.faults out.new) }
-    ensures error { ErrorTextIsPut (S.told shelf.old) (Some (Print file.now)) result
+    ensures error { ErrorTextIsPut (S.told shelf.old) (S.given shelf.new) (Some (Print file.now)) result
         (IsPut (E.bytes err.old) (E.bytes err.new) (E.faults err.old) (E.faults err.new))
         (E.bytes err.new ≡ E.bytes err.old)
-        (ReadsRose (Some (Print file.now)) (S.read_faults shelf.old) (S.read_faults shelf.new))
+        (ShelfRose (S.told shelf.old) (Some (Print file.now)) (S.read_faults shelf.old)
+        (S.read_faults shelf.new) (S.write_faults shelf.old) (S.write_faults shelf.new))
         (Rose (O.faults out.old) (O.faults out.new)) }
-    ensures files { FilesAreKept (S.told shelf.old) (S.told shelf.new) (S.state shelf.old) (S.state shelf.new) }
+    ensures files { FilesAreKept (S.told shelf.old) (S.told shelf.new) (Some (Print file.now)) result
+        (S.state shelf.old) (S.state shelf.new) }
     ensures faults { FaultsHaveCauses (Some (Print file.now)) result
-        (ReadsRose (Some (Print file.now)) (S.read_faults shelf.old) (S.read_faults shelf.new))
+        (ShelfRose (S.told shelf.old) (Some (Print file.now)) (S.read_faults shelf.old)
+        (S.read_faults shelf.new) (S.write_faults shelf.old) (S.write_faults shelf.new))
         (Rose (O.faults out.old) (O.faults out.new)) }
 {
     let end = put_listing(alloc, file, shelf, out);
@@ -56,7 +59,7 @@ fn put_listing<S: Shelf, O: Sink>(
     ensures refused { IfErr result (λ refusal. IfSome (S.told shelf.old) (λ files.
         Gives refusal (outcome (Some (Print file.now)) files))) }
     ensures text { IfErr result HasText }
-    ensures cause { IfErr result (λ refusal. HasCauseIn refusal
+    ensures cause { IfErr result (λ refusal. HasCauseIn (Some (Print file.now)) refusal
         (Rose (S.read_faults shelf.old file.now) (S.read_faults shelf.new file.now))
         (Rose (O.faults out.old) (O.faults out.new)) (S.given shelf.new)) }
     ensures output { IfErr result (λ refusal. LeavesOutput refusal (S.told shelf.old)

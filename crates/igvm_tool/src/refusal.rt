@@ -1,7 +1,7 @@
 //! Why a job ends without being done.
 ghost use Rattle.std.specs.Prelude.{◌≡◌};
 ghost use Rattle.igvm_tool.specs.Clauses.{IsPut};
-ghost use Rattle.igvm_tool.specs.Refusals.{status_of, text_of, end_status, EndIsPut};
+ghost use Rattle.igvm_tool.specs.Refusals.{status_of, limit_text, text_of, end_status, EndIsPut};
 
 use crate::status::Status;
 use igvm_outside::{Sink, put_all};
@@ -18,8 +18,39 @@ pub enum Refusal {
     Memory,
     /// The image has no such platform, or its kind has no digest; this is its line.
     Platform(String),
-    /// The image file is longer than its limit.
-    LongFile,
+    /// The list is no JSON, or an entry of it is refused; this is its line.
+    Json(String),
+    /// Something is longer or larger than its limit.
+    Limit(LimitOf),
+}
+
+/// What a limit is on.
+#[derive(Clone, Copy)]
+pub enum LimitOf {
+    /// The image file.
+    File,
+    /// The text of a component list.
+    List,
+    /// A file that a list names.
+    Blob,
+    /// The contents of a list, together.
+    Data,
+    /// The image that is built.
+    Image,
+}
+
+impl LimitOf {
+    fn text(self) -> &'static str
+        ensures { result.now ≡ limit_text self }
+    {
+        match self {
+            LimitOf::File => "igvm: limit: file\n",
+            LimitOf::List => "igvm: limit: list\n",
+            LimitOf::Blob => "igvm: limit: blob\n",
+            LimitOf::Data => "igvm: limit: data\n",
+            LimitOf::Image => "igvm: limit: image\n",
+        }
+    }
 }
 
 impl Refusal {
@@ -32,7 +63,8 @@ impl Refusal {
             Refusal::Output => Status::Outside,
             Refusal::Memory => Status::Memory,
             Refusal::Platform(_) => Status::Platform,
-            Refusal::LongFile => Status::Limit,
+            Refusal::Json(_) => Status::Json,
+            Refusal::Limit(_) => Status::Limit,
         }
     }
 
@@ -45,7 +77,8 @@ impl Refusal {
             Refusal::Output => "igvm: outside fault: output\n",
             Refusal::Memory => "igvm: want of memory\n",
             Refusal::Platform(line) => line.as_str(),
-            Refusal::LongFile => "igvm: limit: file\n",
+            Refusal::Json(line) => line.as_str(),
+            Refusal::Limit(of) => of.text(),
         }
     }
 }

@@ -2,8 +2,9 @@
 ghost use Rattle.std.specs.Prelude.{◌≡◌};
 ghost use Rattle.igvm_headers.specs.Causes.{Rose};
 ghost use Rattle.igvm_tool.specs.Words.{job_of};
-ghost use Rattle.igvm_tool.specs.Clauses.{StatusIsTrue, UsageIsExact, OutputIsKept, ErrorTextIsPut, FilesAreKept, FaultsHaveCauses, ReadsRose, IsPut};
+ghost use Rattle.igvm_tool.specs.Clauses.{StatusIsTrue, UsageIsExact, OutputIsKept, ErrorTextIsPut, FilesAreKept, FaultsHaveCauses, ShelfRose, IsPut};
 
+use crate::building::build;
 use crate::job::{Job, job_of};
 use crate::measuring::measure;
 use crate::printing::print;
@@ -26,17 +27,21 @@ pub fn run<S: Shelf, O: Sink, E: Sink>(
     ensures usage { UsageIsExact (job_of words.now) result shelf.old shelf.new out.old out.new }
     ensures output { OutputIsKept (S.told shelf.old) (job_of words.now) result
         (O.bytes out.old) (O.bytes out.new) (O.faults out.old) (O.faults out.new) }
-    ensures error { ErrorTextIsPut (S.told shelf.old) (job_of words.now) result
+    ensures error { ErrorTextIsPut (S.told shelf.old) (S.given shelf.new) (job_of words.now) result
         (IsPut (E.bytes err.old) (E.bytes err.new) (E.faults err.old) (E.faults err.new))
         (E.bytes err.new ≡ E.bytes err.old)
-        (ReadsRose (job_of words.now) (S.read_faults shelf.old) (S.read_faults shelf.new))
+        (ShelfRose (S.told shelf.old) (job_of words.now) (S.read_faults shelf.old)
+        (S.read_faults shelf.new) (S.write_faults shelf.old) (S.write_faults shelf.new))
         (Rose (O.faults out.old) (O.faults out.new)) }
-    ensures files { FilesAreKept (S.told shelf.old) (S.told shelf.new) (S.state shelf.old) (S.state shelf.new) }
+    ensures files { FilesAreKept (S.told shelf.old) (S.told shelf.new) (job_of words.now) result
+        (S.state shelf.old) (S.state shelf.new) }
     ensures faults { FaultsHaveCauses (job_of words.now) result
-        (ReadsRose (job_of words.now) (S.read_faults shelf.old) (S.read_faults shelf.new))
+        (ShelfRose (S.told shelf.old) (job_of words.now) (S.read_faults shelf.old)
+        (S.read_faults shelf.new) (S.write_faults shelf.old) (S.write_faults shelf.new))
         (Rose (O.faults out.old) (O.faults out.new)) }
 {
     match job_of(words) {
+        Some(Job::Build { list, target }) => build(alloc, list, target, shelf, out, err),
         Some(Job::Print { file }) => print(alloc, file, shelf, out, err),
         Some(Job::Measure { file, wanted }) => measure(alloc, file, wanted, shelf, out, err),
         None => {

@@ -1,5 +1,6 @@
 //! Worked examples through `run`, over shelves and outputs in memory. An image is written in
 //! hexadecimal digits; its checksum is from Python's `zlib`, its digests are from `hashlib`.
+mod built_images;
 mod faults;
 mod limits;
 mod listings;
@@ -7,6 +8,7 @@ mod long_listings;
 mod page_bytes;
 mod platforms;
 mod refused_files;
+mod refused_lists;
 mod snp_digests;
 mod tdx_digests;
 mod usage;

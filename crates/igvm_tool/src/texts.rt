@@ -1,15 +1,17 @@
 //! The texts of docs/PROGRAM.md.
 ghost use Rattle.std.specs.Prelude.{◌≡◌, IfOk, string_bytes, length};
-ghost use Rattle.igvm_tool.specs.Texts.{rule_words, what_text, fault_text, no_platform_text, no_digest_text, digest_text};
+ghost use Rattle.igvm_tool.specs.Texts.{rule_words, what_text, fault_text, no_platform_text, no_digest_text, digest_text, part_text, not_json_text, field_text, entry_text, built_text};
 ghost use Rattle.igvm_tool.specs.JobView.{wanted_view};
 
 use crate::wanted::Wanted;
+use component_list::ListPart;
 use igvm_headers::{Digest, PlatformKind, ReadFault, ReadWhat, kind_name};
 use std::alloc::{AllocError, Global};
 
 /// How the program is used.
 pub const USAGE: &str = "\
-usage: igvm print FILE
+usage: igvm build LIST OUT
+       igvm print FILE
        igvm measure FILE --platform P
 P is snp, tdx or a platform number
 ";
@@ -85,6 +87,54 @@ pub fn no_digest_text(alloc: Global, kind: PlatformKind) -> Result<String, Alloc
 {
     let name = kind_name(kind);
     format!(in alloc; "igvm: no digest for {name}\n")
+}
+
+/// The word for a part of a component list.
+fn part_text(part: ListPart) -> &'static str
+    ensures { result.now ≡ part_text part }
+{
+    match part {
+        ListPart::Top => "top",
+        ListPart::Platforms => "platforms",
+        ListPart::Policies => "policies",
+        ListPart::Directives => "directives",
+    }
+}
+
+/// The line that says that a list is no JSON.
+pub fn not_json_text(alloc: Global) -> Result<String, AllocError>
+    ensures { IfOk result (λ text. string_bytes text ≡ not_json_text) }
+{
+    String::from_str(alloc, "igvm: json refused\n")
+}
+
+/// The line that says which entry of a list has not its form.
+pub fn field_text(alloc: Global, part: ListPart, item: u32) -> Result<String, AllocError>
+    ensures { IfOk result (λ text. string_bytes text ≡ field_text part item) }
+{
+    let part = part_text(part);
+    format!(in alloc; "igvm: json refused: {part} {item}\n")
+}
+
+/// The line that says which entry of a list breaks which rule.
+pub fn entry_text(
+    alloc: Global,
+    part: ListPart,
+    item: u32,
+    what: ReadWhat,
+) -> Result<String, AllocError>
+    ensures { IfOk result (λ text. string_bytes text ≡ entry_text part item what) }
+{
+    let part = part_text(part);
+    let what = what_text(alloc, what)?;
+    format!(in alloc; "igvm: json refused: {part} {item}: {what}\n")
+}
+
+/// The line that says how many bytes were written.
+pub fn built_text(alloc: Global, bytes: usize) -> Result<String, AllocError>
+    ensures { IfOk result (λ text. string_bytes text ≡ built_text bytes) }
+{
+    format!(in alloc; "built {bytes} bytes\n")
 }
 
 /// The line of a digest.

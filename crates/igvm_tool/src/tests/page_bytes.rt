@@ -62,7 +62,7 @@ igvm version 1 section 24 656 total 41640 headers 24
 ";
 
 /// The bytes of the pages are the numbers 0 to 4,607 in 8 bytes each.
-fn machine(alloc: Global) -> Result<Vec<u8>, Fail> {
+pub fn machine(alloc: Global) -> Result<Vec<u8>, Fail> {
     let mut file = hex::decode(alloc, MACHINE)?;
     for number in 0u64..4608 {
         file.extend_from_slice(&number.to_le_bytes())?;

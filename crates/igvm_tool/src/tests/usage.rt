@@ -5,13 +5,19 @@ use crate::words::Words;
 use std::test::Fail;
 
 const USAGE: &str = "\
-usage: igvm print FILE
+usage: igvm build LIST OUT
+       igvm print FILE
        igvm measure FILE --platform P
 P is snp, tdx or a platform number
 ";
 
 /// Words that mean no job. The image would be accepted.
-static OTHERS: [&str; 30] = [
+static OTHERS: [&str; 35] = [
+    "build",
+    "build LIST",
+    "build -x OUT",
+    "build LIST -x",
+    "build LIST OUT OUT",
     "measure FILE",
     "measure --platform snp FILE",
     "measure FILE --platform=snp",
