@@ -60,9 +60,14 @@ def best(commands, times):
     return least
 
 
+def peak(words, output):
+    """The most memory in bytes that a command takes, or None where GNU time is missing."""
+    if not os.access(TIME, os.X_OK):
+        return None
+    return int(run([TIME, "-f", "%M"] + words, output).split()[-1]) * 1024
+
+
 def over_the_file(words, output, size):
     """A text on the most memory that a command takes, beside that of its image."""
-    if not os.access(TIME, os.X_OK):
-        return "unknown"
-    peak = int(run([TIME, "-f", "%M"] + words, output).split()[-1]) * 1024
-    return f"{(peak - size) / 1e6:.1f} MB over the file"
+    most = peak(words, output)
+    return "unknown" if most is None else f"{(most - size) / 1e6:.1f} MB over the file"

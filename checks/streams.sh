@@ -1,5 +1,5 @@
 #!/usr/bin/env bash
-# How the program ends where an output fails or FILE is no plain file, by docs/PROGRAM.md.
+# How the program ends where an output fails or a file is no plain one, by docs/PROGRAM.md, and what OUT then holds.
 # Ends with 77 where it isn't built.
 set -u
 
@@ -13,7 +13,8 @@ fi
 
 folder=$(mktemp -d) || exit 1
 trap 'rm -rf -- "$folder"' EXIT
-cp -- "$root"/examples/guest.* "$folder" && ln -s -- "$program" "$folder/igvm" && cd -- "$folder" || exit 1
+cp -- "$root"/examples/guest.* "$root"/examples/boot.igvm "$folder" && mkdir "$folder/examples" &&
+    cp -- "$root"/examples/boot.* "$folder/examples" && ln -s -- "$program" "$folder/igvm" && cd -- "$folder" || exit 1
 head -c 23 guest.igvm >short
 mkfifo pipe
 grep -F '| `guest.igvm` | snp |' "$root/examples/README.md" | grep -Eo '[0-9a-f]{96}' >digest
@@ -53,6 +54,38 @@ ends 0 '' 'timeout 10 bash -c "cat guest.igvm >pipe" & ./igvm print pipe | cmp -
 ends 0 '' 'cat guest.igvm | ./igvm print /dev/stdin | cmp - guest.txt >&2'
 ends 0 '' 'cat guest.igvm | ./igvm measure /dev/stdin --platform snp | cmp - digest >&2'
 ends 1 'igvm: file refused at 0: too short' './igvm print /dev/null'
+
+build='./igvm build examples/boot.json'
+shelf='igvm: outside fault: shelf'
+echo '[' >broken
+ends 0 '' "$build out >/dev/null && cmp out boot.igvm >&2"
+for closed in '>&-' '>/dev/full'; do
+    # The image stands whole where only the line fails.
+    ends 4 "$output" "rm -f out; $build out $closed"
+    ends 0 '' 'cmp out boot.igvm >&2'
+    ends 7 'igvm: json refused' "./igvm build broken out $closed"
+    ends 0 '' 'cmp out boot.igvm >&2'
+done
+ends 4 "$output" "set -o pipefail; { sleep 0.2; $build out; } | true"
+ends 0 '' "$build out >/dev/null 2>&-"
+ends 4 "$shelf" "$build /dev/full"
+ends 4 "$shelf" "$build examples"
+ends 4 '' "$build /dev/full 2>/dev/full"
+ends 4 "$shelf" 'cd examples && ../igvm build boot.json out'
+ends 2 '' '[ ! -e examples/out ] || exit 1; ./igvm build 2>/dev/full'
+# A file that the system cuts at 16 blocks of 1,024 bytes: a front of the image stands there.
+ends 4 "$shelf" "trap '' XFSZ; ulimit -f 16; $build out"
+ends 0 '' 'head -c 16384 boot.igvm | cmp - out >&2'
+# Written in its place: a link stays one, and what was longer is cut.
+head -c 100000 /dev/zero >long
+ln -s long link
+ends 0 '' "$build link >/dev/null && [ -L link ] && cmp long boot.igvm >&2"
+ends 0 '' "cp boot.igvm both; echo 'built 41640 bytes' >>both; $build /dev/stdout | cmp - both >&2"
+ends 0 '' "$build pipe >/dev/null & cat pipe | cmp - boot.igvm >&2"
+ends 0 '' "cat examples/boot.json | ./igvm build /dev/stdin out >/dev/null && cmp out boot.igvm >&2"
+# LIST itself, and a file that it names, may be written.
+ends 0 '' "cp examples/boot.json self; ./igvm build self self >/dev/null && cmp self boot.igvm >&2"
+ends 0 '' "$build examples/boot.pages >/dev/null && cmp examples/boot.pages boot.igvm >&2"
 
 echo "streams: $runs runs, $faults faults"
 [ "$faults" -eq 0 ]

@@ -1,8 +1,8 @@
 #!/usr/bin/env -S python3 -B
 """The program takes the words that docs/PROGRAM.md lists, and no others.
 
-Each row of words is run in a folder where a small image with three platforms lies under several names. The usage
-text is read from the page. Ends with 77 where the program isn't built.
+Each row of words is run in a folder where a small image with three platforms lies under several names, and a list of
+one platform under several others. The usage text is read from the page. Ends with 77 where the program isn't built.
 """
 import os
 import sys
@@ -15,6 +15,12 @@ from program import ROOT, Program, is_built
 PLATFORMS = ((1, 0), (2, 3), (4, 2))           # mask and platform type: native, tdx, snp
 IMAGE = images.image_of(images.row([*(images.platform(*one) for one in PLATFORMS), images.page(0x1000, mask=6)]))
 NAMES = ("image", "-x", "measure", "print", "snp")      # the image's, all the same
+LIST = b'{"platforms":[{"kind":"snp","mask":1}],"directives":[]}'
+BUILT = images.image_of(images.platform())
+LIST_NAMES = ("list", "-list", "build")                 # the list's, all the same
+# words that build the list, and the file that they write
+BUILDING = (("build list out", "out"), ("build build made", "made"), ("build ./-list ./-out", "-out"),
+            ("build list print", "print"), ("build list list", "list"))
 # words that mean a job, and the command that it is
 TAKEN = (
     ("print image", "print"), ("measure image --platform snp", "measure snp"),
@@ -29,7 +35,10 @@ TAKEN = (
 REFUSED = (
     "", "print", "measure", "help", "--help", "-h", "--version", "--", "image", "PRINT image", "prin image",
     "print image image", "print image --platform snp", "print -x", "print --", "print -- image", "-- print image",
-    "image print", "print --help", "load image image --platform snp", "build image out", "make 4 out",
+    "image print", "print --help", "load image image --platform snp", "make 4 out",
+    "build", "build list", "build list new new", "build list -new", "build -list new", "build -- list new",
+    "build list --", "build list new --platform snp", "build list --platform snp", "Build list new", "list build new",
+    "build --help", "build --list new", "buil list new",
     "measure image", "measure image --platform", "measure image snp", "measure image -p snp",
     "measure --platform snp image", "--platform snp measure image", "measure image --platform=snp",
     "measure -x --platform snp", "measure image --platform snp --platform snp", "measure image --platform snp snp",
@@ -41,7 +50,9 @@ REFUSED = (
     "measure image --platform \u0661", "measure image --native-zero --platform snp",
 )
 EMPTY = (["print", ""], ["measure", "", "--platform", "snp"], ["measure", "image", "", "snp"],
-         ["measure", "image", "--platform", ""], ["", "image"], ["print image"], [b"print", b"im\xffage"],
+         ["measure", "image", "--platform", ""], ["", "image"], ["print image"],
+         ["build", "", "new"], ["build", "list", ""], ["build list", "new"],
+         [b"build", b"list", b"ne\xffw"], [b"build", b"li\xffst", b"new"], [b"print", b"im\xffage"],
          [b"measure", b"image", b"--platform", b"\xff"])
 
 
@@ -56,25 +67,37 @@ def usage():
 
 
 def rows():
-    """(words, status, output, error) of each run."""
+    """(words, status, output, error) of each run that writes no file."""
     for words, command in TAKEN:
         yield words.split(), answer(command, IMAGE, None)
     for words in (*(words.split() for words in REFUSED), *EMPTY):
         yield words, (2, "", usage())
     yield ["print", "missing"], (4, "", "igvm: outside fault: shelf\n")
     yield ["measure", ".", "--platform", "0"], (4, "", "igvm: outside fault: shelf\n")
+    for list_name, out in (("missing", "new"), (".", "new"), ("list", "."), ("list", "missing/new")):
+        yield ["build", list_name, out], (4, "", "igvm: outside fault: shelf\n")
+    yield ["build", "image", "new"], (7, "", "igvm: json refused\n")
 
 
 def differences(folder):
     """The words that are answered otherwise, each a text, and None for the others."""
-    for name in NAMES:
-        with open(os.path.join(folder, name), "wb") as file:
-            file.write(IMAGE)
-    program = Program(folder)
     os.chdir(folder)
+    for names, content in ((NAMES, IMAGE), (LIST_NAMES, LIST)):
+        for name in names:
+            with open(name, "wb") as file:
+                file.write(content)
+    program, before = Program(folder), set(os.listdir("."))
     for words, want in rows():
         got = program.run(words)
         yield None if got == want else f"{words}: the program answers {got}, expected {want}"
+    others = set(os.listdir(".")) - before - {"output", "error"}
+    yield f"these files were written: {others}" if others else None
+    for words, name in BUILDING:
+        got = program.run(words.split())
+        with open(name, "rb") as file:
+            written = file.read()
+        is_right = got == (0, f"built {len(BUILT)} bytes\n", "") and written == BUILT
+        yield None if is_right else f"{words}: the program answers {got} and writes {written}"
 
 
 def main():

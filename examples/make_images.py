@@ -1,9 +1,9 @@
 #!/usr/bin/env -S python3 -B
-"""Writes the example images and their listings, and prints the digests of each.
+"""Writes the example images, their listings and the files that boot.json names, and prints the digests of each.
 
     make_images.py [FOLDER]      into this script's own folder where none is named
 
-What the images are is declared here; image.py spells them.
+What the images are is declared here; image.py spells them. The list boot.json was written by hand.
 """
 import os
 import struct
@@ -12,6 +12,7 @@ import sys
 from image import CPUID, CPUID_XF, NATIVE, PAGE, SECRETS, SNP, TDX, Image
 
 ALL = SNP | TDX | NATIVE
+BOOT_PAGES = 9
 
 
 def pattern(seed, size):
@@ -22,6 +23,16 @@ def pattern(seed, size):
 def counted(size):
     """The numbers from 0 on, eight bytes each."""
     return struct.pack(f"<{size // 8}Q", *range(size // 8))
+
+
+def boot_pages():
+    """The code that boots: what boot.json has as pages."""
+    return counted(BOOT_PAGES * PAGE)
+
+
+def boot_vmsa():
+    """The registers of the first processor, as far as they are stated."""
+    return bytes([0x5A] * 1648)
 
 
 def one_page():
@@ -76,18 +87,24 @@ def boot():
     image.parameter("vp_count", 0, 2048)
     image.parameter("command_line", 1, 0)
     image.required(ALL, 0, 0x1000000)
-    code = counted(9 * PAGE)
+    code = boot_pages()
     for at in range(0, len(code), PAGE):
         image.page(ALL, 0x10000 + at, code[at:at + PAGE])
     image.page(SNP, 0x9E000, kind=SECRETS)
     image.page(SNP, 0x9F000, kind=CPUID)
     image.insert(ALL, 0x1A000, 0)
     image.insert(ALL, 0x1B000, 1)
-    image.context(SNP, 0xFFFFFFFFF000, 0, bytes([0x5A] * 1648).ljust(PAGE, b"\0"))
+    image.context(SNP, 0xFFFFFFFFF000, 0, boot_vmsa().ljust(PAGE, b"\0"))
     return image
 
 
 IMAGES = {"one_page": one_page, "guest": guest, "boot": boot}
+LIST_FILES = {"boot.pages": boot_pages, "boot.vmsa": boot_vmsa}
+
+
+def write(folder, name, content):
+    with open(os.path.join(folder, name), "wb") as out:
+        out.write(content)
 
 
 def main():
@@ -95,13 +112,13 @@ def main():
     for name, make in IMAGES.items():
         image = make()
         file, listing = image.spelled()
-        with open(os.path.join(folder, f"{name}.igvm"), "wb") as out:
-            out.write(file)
-        with open(os.path.join(folder, f"{name}.txt"), "w", encoding="ascii") as out:
-            out.write(listing)
+        write(folder, f"{name}.igvm", file)
+        write(folder, f"{name}.txt", listing.encode("ascii"))
         print(f"{name}.igvm snp", image.snp().hex())
         if image.platforms > 1:
             print(f"{name}.igvm tdx", image.tdx().hex())
+    for name, make in LIST_FILES.items():
+        write(folder, name, make())
 
 
 if __name__ == "__main__":
