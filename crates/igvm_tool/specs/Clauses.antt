@@ -123,11 +123,15 @@ HaveFront told told' None = ⊥
 HaveFront told told' (Some written) =
     (n : ℕ) × (n ≤ length written.bytes) × (told' ≡ with_file told written.name (take n written.bytes))
 
+-- the files are told, and the one that the job writes has a front of its bytes
+abbrev pub WroteFront : Option Files → Option Files → Option Job → Type 0
+WroteFront None told' job = ⊥
+WroteFront (Some files) told' job = HaveFront (Some files) told' (outcome job files).written
+
 -- the files change by the one that is written, and by nothing else
 abbrev pub ChangesWritten : Option Files → Option Files → Option Job → Status → Type 0
 ChangesWritten told told' job is.Done = told' ≡ option_map (λ files. with_written (outcome job files).written files) told
-ChangesWritten told told' job is.Outside =
-    (told' ≡ told) ⊎ IfSome told (λ files. HaveFront told told' (outcome job files).written)
+ChangesWritten told told' job is.Outside = (told' ≡ told) ⊎ WroteFront told told' job
 ChangesWritten told told' job _ = told' ≡ told
 
 -- After Done the written file alone has changed, and after a fault of the outside it may have a front of its bytes;
