@@ -43,19 +43,25 @@ def one_page():
     return image
 
 
-def guest():
-    """A small guest for three platforms, with each kind of header."""
+def for_three_platforms(command_line_bytes, command_line=b""):
+    """What both guests begin with: the platforms, a policy, the areas of the host's parameters, the memory wanted."""
     image = Image()
     image.platform(SNP, vtl=2)
     image.platform(TDX)
     image.platform(NATIVE)
     image.policy(SNP, 0x30000)
     image.area(0, PAGE)
-    image.area(1, 2 * PAGE, pattern(2, 2 * PAGE))
+    image.area(1, command_line_bytes, command_line)
     image.parameter("memory_map", 0, 0)
     image.parameter("vp_count", 0, 2048)
     image.parameter("command_line", 1, 0)
     image.required(ALL, 0, 0x1000000)
+    return image
+
+
+def guest():
+    """A small guest for three platforms, with each kind of header."""
+    image = for_three_platforms(2 * PAGE, pattern(2, 2 * PAGE))
     for k in range(3):
         image.page(ALL, 0x10000 + k * PAGE, pattern(3 + k, PAGE))
     image.page(SNP | TDX, 0x13000, pattern(6, PAGE), unmeasured=True)
@@ -76,17 +82,7 @@ def guest():
 
 def boot():
     """What boots on three platforms: nine pages of code, the host's parameters, and on SEV-SNP one processor."""
-    image = Image()
-    image.platform(SNP, vtl=2)
-    image.platform(TDX)
-    image.platform(NATIVE)
-    image.policy(SNP, 0x30000)
-    image.area(0, PAGE)
-    image.area(1, PAGE)
-    image.parameter("memory_map", 0, 0)
-    image.parameter("vp_count", 0, 2048)
-    image.parameter("command_line", 1, 0)
-    image.required(ALL, 0, 0x1000000)
+    image = for_three_platforms(PAGE)
     code = boot_pages()
     for at in range(0, len(code), PAGE):
         image.page(ALL, 0x10000 + at, code[at:at + PAGE])
