@@ -1,5 +1,5 @@
 -- A chunk of a page: what is lent of it, and the zeros behind.
-use Rattle.std.proofs.Common.{◌≡◌, ℕ, zero, suc, ◌+◌, ◌-◌, ◌*◌, ◌<◌, ◌≤◌, List, [], ◌∷◌, ◌++◌, length, take, drop, replicate, min, refl, ap, ap₂, ◌∙◌, arith}
+use Rattle.std.proofs.Common.{◌≡◌, ℕ, zero, suc, ◌+◌, ◌-◌, ◌*◌, ◌<◌, ◌≤◌, List, [], ◌∷◌, ◌++◌, length, take, drop, replicate, min, refl, ap, ap₂, ◌∙◌, arith, sym, append_assoc, append-nil}
 use Rattle.std.proofs.lemmas.List.{drop-replicate, take-replicate, drop_min, take_min, length-drop}
 use Rattle.igvm_headers.specs.Numbers.{slice}
 use Rattle.igvm_headers.specs.Pages.{padded_page}
@@ -43,3 +43,17 @@ lent_slice lent at start end is_start is_end =
     let behind : drop start lent ≡ drop at lent = ap (λ n. drop n lent) is_start ∙ drop_min at lent in
     let size : end - start ≡ min 256 (length (drop at lent)) = omega (arith, length-drop at lent) in
     ap₂ take size behind ∙ take_min 256 (drop at lent)
+
+-- behind bytes that came before: what is lent of a chunk, and its zeros
+pub then_chunk : (m lent chunk zeros : List ℕ) (k : ℕ) → length lent ≤ 4096 → k < 16 → chunk ≡ slice lent (256 * k) 256 → zeros ≡ replicate (256 - length chunk) 0
+    → (m ++ chunk) ++ zeros ≡ m ++ slice (padded_page lent) (256 * k) 256
+then_chunk m lent chunk zeros k within few lends fills =
+    let rest : zeros ≡ replicate (256 - length (slice lent (256 * k) 256)) 0 = fills ∙ ap (λ (xs : List ℕ). replicate (256 - length xs) 0) lends in
+    append_assoc m chunk zeros ∙ ap (λ (xs : List ℕ). m ++ xs) (ap₂ (λ (xs ys : List ℕ). xs ++ ys) lends rest ∙ sym (chunk_padded lent k within few))
+
+-- a whole chunk has no zeros behind
+pub then_whole_chunk : (m lent chunk : List ℕ) (k : ℕ) → length lent ≤ 4096 → k < 16 → chunk ≡ slice lent (256 * k) 256 → 256 ≤ length chunk → m ++ chunk ≡ m ++ slice (padded_page lent) (256 * k) 256
+then_whole_chunk m lent chunk k within few lends whole =
+    let full : 0 ≡ 256 - length chunk = omega (arith, whole) in
+    let none : [] ≡ replicate (256 - length chunk) 0 = ap (λ n. replicate n 0) full in
+    sym (append-nil (m ++ chunk)) ∙ then_chunk m lent chunk [] k within few lends none

@@ -1,13 +1,16 @@
-use Rattle.std.proofs.Common.{ℕ, List, ◌++◌, ap, ap₂, sym, ◌∙◌, subst, append_assoc, length, ◌-◌, replicate}
+use Rattle.std.proofs.Common.{◌++◌, subst, arith}
 use Rattle.sha2.specs.Hashers.{Holds384}
-use Rattle.tdx_chain.proofs.PageChunks.{chunk_padded}
+use Rattle.tdx_chain.proofs.PageChunks.{then_chunk, then_whole_chunk}
 use Rattle.tdx_chain.proofs.chain.add_chunk.Goals as goal
 
--- what is lent of the chunk, and then zeros
-pub returns : goal.returns
-returns c = λ m held.
-    let lent = c.lent_chunk-chunk.result.now in
-    let is = c.lent_chunk-chunk.ensures.value in
-    let whole = sym (chunk_padded c.args.lent.now c.args.k c.requires.size c.requires.within ∙ sym (ap₂ (λ (xs ys : List ℕ). xs ++ ys) is (c.zeros.ensures ∙ ap (λ (xs : List ℕ). replicate (256 - length xs) 0) is))) in
-    subst (λ (bytes : List ℕ). Holds384 c.update-2.new.self bytes) (append_assoc m lent c.zeros.result.now ∙ ap (λ (xs : List ℕ). m ++ xs) whole)
-    (c.update-2.ensures (m ++ lent) (c.update.ensures m held))
+pub returns-then-chunk-lt256 : goal.returns-then-chunk-lt256
+returns-then-chunk-lt256 c = λ m held.
+    subst (Holds384 c.update-then-chunk-lt256.new.self)
+    (then_chunk m c.args.lent.now c.lent_chunk-chunk.result.now c.zeros.result.now c.args.k c.requires.size c.requires.within c.lent_chunk-chunk.ensures.value c.zeros.ensures)
+    (c.update-then-chunk-lt256.ensures (m ++ c.lent_chunk-chunk.result.now) (c.update.ensures m held))
+
+pub returns-else-chunk-lt256 : goal.returns-else-chunk-lt256
+returns-else-chunk-lt256 c = λ m held.
+    subst (Holds384 c.update.new.self)
+    (then_whole_chunk m c.args.lent.now c.lent_chunk-chunk.result.now c.args.k c.requires.size c.requires.within c.lent_chunk-chunk.ensures.value (omega (arith, c.if-chunk-lt256)))
+    (c.update.ensures m held)
