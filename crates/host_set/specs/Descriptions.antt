@@ -1,18 +1,18 @@
 -- What a host description says, or the first refusal of it.
-use Rattle.std.specs.Prelude.{ℕ, ◌&&◌, Bool, if◌then◌else◌, codes, List, [], ◌∷◌, map, is_some, ok_or, Option, Some, None, option_and_then, Result, Ok, Err}
-use Rattle.std.specs.Str.{is_utf8}
+use Rattle.std.specs.Prelude.{ℕ, ◌&&◌, Bool, if◌then◌else◌, codes, List, [], ◌∷◌, map, is_some, ok_or, Option, Some, None, Result, Ok, Err}
 use Rattle.igvm_headers.specs.declared.param_kind.ParamKind.{ParamKind}
 use Rattle.igvm_headers.specs.Names.{param_text}
 use Rattle.serde_json.specs.Data.{Data, Items, no_items, item}
 use Rattle.serde_json.specs.Events.{items_len}
 use Rattle.serde_json.specs.Find.{get, as_array, as_object}
-use Rattle.serde_json.specs.Read.{read}
+use Rattle.json_forms.specs.Forms.{address, has_only, or_default, required}
+use Rattle.json_forms.specs.Texts.{json_of}
 use Rattle.host_set.specs.declared.range.PlanRange.{PlanRange}
 use Rattle.host_set.specs.declared.refusal.HostPart.{HostPart}
 use Rattle.host_set.specs.declared.refusal.HostPart.TheVariants as part
 use Rattle.host_set.specs.declared.refusal.HostRefusal.{HostRefusal}
 use Rattle.host_set.specs.declared.refusal.HostRefusal.TheVariants as refusal
-use Rattle.host_set.specs.Forms.{address_at, bytes_of, has_only}
+use Rattle.host_set.specs.Bytes.{bytes_of}
 use Rattle.host_set.specs.Hosts.{HostValues, no_values, params, param_number}
 use Rattle.host_set.specs.Plans.{placed_count, unless_all}
 
@@ -38,7 +38,7 @@ range_from None bytes = None
 unfoldable pub range_of : Data → Option PlanRange
 range_of json =
     if has_only (codes "start" ∷ codes "bytes" ∷ []) json
-    then range_from (address_at (codes "start") json) (address_at (codes "bytes") json) else None
+    then range_from (required address (codes "start") json) (required address (codes "bytes") json) else None
 
 -- a range before the others; none ends them
 abbrev pub and_then : Option PlanRange → List PlanRange → List PlanRange
@@ -66,14 +66,13 @@ plan_in (Some entries) = plan_of (items_len entries) (front_ranges entries)
 
 -- the plan that stands at `memory`
 abbrev pub memory_of : Data → Result (List PlanRange) HostRefusal
-memory_of json = plan_in (option_and_then as_array (get (codes "memory") json))
+memory_of json = plan_in (required as_array (codes "memory") json)
 
 -- ---- values
 
 -- the bytes of a value, which are none where it is missing
 abbrev pub bytes_at : ℕ → HostRefusal → Option Data → Result (List ℕ) HostRefusal
-bytes_at limit refused None = Ok []
-bytes_at limit refused (Some json) = ok_or (bytes_of limit json) refused
+bytes_at limit refused found = ok_or (or_default (bytes_of limit) [] found) refused
 
 -- the value of a parameter
 abbrev pub param_value : Data → ParamKind → Result (List ℕ) HostRefusal
@@ -135,10 +134,6 @@ parts_of json = do
 unfoldable pub host_from : Data → Result (List PlanRange × HostValues) HostRefusal
 host_from json = if is_description json then parts_of json else Err (field part.Top 0)
 
--- the value of a JSON text
-abbrev pub json_of : List ℕ → Result Data HostRefusal
-json_of bytes = if is_utf8 bytes then ok_or (read bytes) refusal.NotJson else Err refusal.NotJson
-
 -- the plan and the values of a text
 unfoldable pub host_of : List ℕ → Result (List PlanRange × HostValues) HostRefusal
-host_of bytes = json_of bytes >>= host_from
+host_of bytes = ok_or (json_of bytes) refusal.NotJson >>= host_from

@@ -2,6 +2,8 @@ pub mod Plans
 pub mod PlanRules
 pub mod Hosts
 pub mod HostViews
-pub mod Forms
+pub mod Bytes
 pub mod Descriptions
 pub use Rattle.igvm_headers.specs.Names
+pub use Rattle.json_forms.specs.Forms
+pub use Rattle.json_forms.specs.Texts

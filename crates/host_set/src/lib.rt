@@ -3,7 +3,6 @@
 
 mod covering;
 mod fields;
-mod forms;
 mod host;
 mod laws;
 mod memory;

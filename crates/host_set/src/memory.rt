@@ -3,11 +3,11 @@ ghost use Rattle.std.specs.Prelude.{◌≡◌, ◌≢◌, ◌≤◌, length, opt
 ghost use Rattle.serde_json.specs.View.{view, items_view};
 ghost use Rattle.host_set.specs.Descriptions.{front_ranges, plan_in, plan_of, range_of};
 
-use crate::forms::{address_at, has_only};
 use crate::plan::MemoryPlan;
 use crate::range::PlanRange;
 use crate::refusal::{HostPart, HostRefusal};
 use igvm_headers::Memory;
+use json_forms::{address, has_only};
 use serde_json::Value;
 use std::alloc::Global;
 
@@ -78,7 +78,7 @@ fn range_of(json: &Value) -> Option<PlanRange>
     if !has_only(json, &["start", "bytes"]) {
         return None;
     }
-    let start = address_at(json, "start")?;
-    let bytes = address_at(json, "bytes")?;
+    let start = address(json.get("start")?)?;
+    let bytes = address(json.get("bytes")?)?;
     Some(PlanRange { start, bytes })
 }

@@ -1,16 +1,16 @@
 //! Host descriptions: JSON (RFC 8259) of the form that docs/HOST.md gives.
 ghost use Rattle.std.specs.Prelude.{◌≡◌, ◌≢◌, ◌≤◌, length, IfOk, IfErr};
 ghost use Rattle.serde_json.specs.View.{view};
-ghost use Rattle.host_set.specs.Descriptions.{host_from, host_of, is_description, json_of};
+ghost use Rattle.host_set.specs.Descriptions.{host_from, host_of, is_description};
 ghost use Rattle.host_set.specs.Descriptions.{page_bytes, parts_of};
 
 use crate::fields::bytes_at;
-use crate::forms::has_only;
 use crate::host::HostSet;
 use crate::memory::plan_in;
 use crate::plan::MemoryPlan;
 use crate::refusal::{HostPart, HostRefusal};
 use crate::values::values_in;
+use json_forms::{JsonRefusal, has_only, json_of};
 use serde_json::Value;
 use std::alloc::Global;
 
@@ -24,22 +24,10 @@ pub fn read_host(alloc: Global, bytes: &[u8]) -> Result<(MemoryPlan, HostSet), H
     ensures refused { IfErr result (λ refusal. refusal ≢ HostRefusal.Memory
         → host_of bytes.now ≡ Err refusal) }
 {
-    host_from(alloc, &json_of(alloc, bytes)?)
-}
-
-/// The value of a JSON text.
-fn json_of(alloc: Global, bytes: &[u8]) -> Result<Value, HostRefusal>
-    ensures read { IfOk result (λ json. json_of bytes.now ≡ Ok (view json)) }
-    ensures refused { IfErr result (λ e. e ≢ HostRefusal.Memory → json_of bytes.now ≡ Err e) }
-{
-    match Value::from_slice(alloc, bytes) {
-        Ok(json) => Ok(json),
-        Err(e) => {
-            if e.is_memory() {
-                return Err(HostRefusal::Memory);
-            }
-            Err(HostRefusal::NotJson)
-        }
+    match json_of(alloc, bytes) {
+        Ok(json) => host_from(alloc, &json),
+        Err(JsonRefusal::NotJson) => Err(HostRefusal::NotJson),
+        Err(JsonRefusal::Memory) => Err(HostRefusal::Memory),
     }
 }
 

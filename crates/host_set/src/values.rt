@@ -6,11 +6,11 @@ ghost use Rattle.host_set.specs.Hosts.{no_values, params};
 ghost use Rattle.host_set.specs.Descriptions.{known_values, param_value, param_values, values_in};
 
 use crate::fields::bytes_at;
-use crate::forms::has_only;
 use crate::host::HostSet;
 use crate::number::{PARAMS, param_number};
 use crate::refusal::{HostPart, HostRefusal};
 use igvm_headers::{ParamKind, param_name};
+use json_forms::has_only;
 use serde_json::Value;
 use std::alloc::Global;
 
