@@ -1,5 +1,6 @@
 pub use Rattle.igvm_headers.specs.Causes
 pub mod Files
+pub mod Pieces
 pub mod Outputs
 pub mod Whole
 pub mod Script

@@ -16,7 +16,7 @@ mod sink;
 mod std_shelf;
 mod std_sink;
 
-pub use filing::write_file;
+pub use filing::{write_file, write_pieces};
 pub use made_shelf::MadeShelf;
 pub use mem_shelf::MemShelf;
 pub use mem_sink::MemSink;

@@ -92,6 +92,25 @@ fn a_file_is_written_up_to_a_fault(rt: HostRuntime) -> Result<(), Fail> {
     Ok(())
 }
 
+// The calls are create, a write of the front, two of the second piece, and close: a piece that is
+// empty makes none.
+#[test]
+fn pieces_are_written_up_to_a_fault(rt: HostRuntime) -> Result<(), Fail> {
+    for (failing, want) in [(0, b"newnewnews".as_slice()), (4, b"newnewn")] {
+        let mut shelf = shelf_of_one(rt.alloc())?;
+        shelf.set_piece(4);
+        shelf.fail_call(failing)?;
+        let is_whole = write_pieces(&mut shelf, "a", b"new", &[b"", b"newnews", b""]).is_ok();
+        assert_eq!(rt;
+            read_all(rt.alloc(), &mut shelf, "a", 10)?.as_slice(),
+            want,
+            "at {failing}"
+        );
+        assert_eq!(rt; is_whole, want.len() == 10, "at {failing}");
+    }
+    Ok(())
+}
+
 // The bytes are those of the numbers 0, 1 and 2.
 #[test]
 fn a_file_is_made(rt: HostRuntime) -> Result<(), Fail> {

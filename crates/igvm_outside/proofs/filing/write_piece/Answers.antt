@@ -1,0 +1,19 @@
+use Rattle.std.proofs.Common.{ℕ, arith, length-take, length-drop, ◌∙◌}
+use Rattle.igvm_outside.proofs.Refused.{on_err}
+use Rattle.igvm_outside.proofs.Written.{write_more, broken_off}
+use Rattle.igvm_outside.proofs.filing.write_piece.Goals as goal
+
+pub writes-preserved : goal.writes-preserved
+writes-preserved g c = record {
+  within = omega (arith, c.in_ok-at.ensures.within, length-take {A = ℕ}, length-drop {A = ℕ});
+  open_still = c.in_ok-at.ensures.open_still;
+  written = λ told text before. write_more _ _ _ _ _ _ _ _ (c.writes.invariant.written told text before) c.in_ok-at.ensures.written;
+  reads = λ name. omega (arith, c.writes.invariant.reads name, c.write.ensures.reads name);
+  writes = λ name. omega (arith, c.writes.invariant.writes name, c.write.ensures.writes name);
+}
+
+-- the call that failed has changed nothing
+pub returns-in_err-at-clause-front : goal.returns-in_err-at-clause-front
+returns-in_err-at-clause-front g c told text before =
+    on_err c.from_residual.result
+    (broken_off told _ _ text c.args.piece.now c.writes.at c.writes.invariant.within (c.in_err-at.ensures.kept ∙ c.writes.invariant.written told text before))

@@ -1,0 +1,18 @@
+use Rattle.std.proofs.Common.{ℕ, List, ◌++◌, length, ◌-◌, ◌≡◌, ◌≤◌, take}
+use Rattle.std.specs.Prelude.{Option}
+use Rattle.igvm_outside.specs.Files.{Files, writing, with_file, NeverFalls}
+use Rattle.igvm_outside.proofs.filing.write_piece.Given as goal
+
+-- behind what the file had stands the front of the piece that is written so far
+abbrev pub invariant-writes : goal.invariant-writes
+invariant-writes g l = record {
+  within : l.at ≤ length l.piece;
+  open_still : g.S.Shelf.state l.shelf ≡ writing (g.S.Shelf.told l.shelf) l.name;
+  written : (told : Option Files) (text : List ℕ) → g.S.Shelf.told l.fn.shelf ≡ with_file told l.name text
+      → g.S.Shelf.told l.shelf ≡ with_file told l.name (text ++ take l.at l.piece);
+  reads : NeverFalls (g.S.Shelf.read_faults l.fn.shelf) (g.S.Shelf.read_faults l.shelf);
+  writes : NeverFalls (g.S.Shelf.write_faults l.fn.shelf) (g.S.Shelf.write_faults l.shelf);
+}
+
+abbrev pub decreases-writes : goal.decreases-writes
+decreases-writes g l = length l.piece - l.at
