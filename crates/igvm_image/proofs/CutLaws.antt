@@ -1,5 +1,5 @@
 -- A file and its first bytes: numbers, slices and the rules on the whole file.
-use Rattle.std.proofs.Common.{◌≡◌, ℕ, zero, suc, ◌+◌, ◌-◌, ◌*◌, ◌<◌, ◌≤◌, List, length, take, drop, refl, sym, ◌∙◌, ap, ap₂, subst, arith, Option, Some, None, Result, Ok, Err, true, false, Bool}
+use Rattle.std.proofs.Common.{◌≡◌, ℕ, zero, suc, ◌+◌, ◌-◌, ◌*◌, ◌<◌, ◌≤◌, List, length, take, drop, refl, sym, ◌∙◌, ap, ap₂, subst, arith, Option, Some, None, Ok, Err, true, false, Bool}
 use Rattle.std.specs.Prelude.{◌||◌, nat_lt, not, ◌==◌, if◌then◌else◌, T}
 use Rattle.std.proofs.Math.Facts.{eqb_yes}
 use Rattle.std.proofs.lemmas.List.{get_or-drop, get_or-take, drop-take, take-take, length-take-le}
@@ -14,7 +14,7 @@ use Rattle.igvm_headers.specs.declared.fault.ReadWhat.TheVariants.{TooShort, Mag
 use Rattle.igvm_image.specs.Reading.{fault_of, fields_fault, faults_behind, fault_or, section_fault, section_of, checked_bytes}
 use Rattle.igvm_image.specs.Headers.{IsAccepted}
 use Rattle.igvm_image.specs.Laws.{cut_fault}
-use Rattle.igvm_image.proofs.HeadersLemmas.{fixed_form-fields}
+use Rattle.igvm_image.specs.AcceptedLaws.{accepted_is}
 
 -- a number among the first m bytes
 little_from-take : (i n at m : ℕ) (s : List ℕ) → at + i + n ≤ m → little_from i n (drop at (take m s)) ≡ little_from i n (drop at s)
@@ -156,31 +156,6 @@ fields_fault-total s fixed h =
     Some (fault_at 8 Section) else
     if not (crc (checked_bytes s fixed) == fixed.checksum) then Some (fault_at 20 Checksum) else
     None) short
-
--- What an accepted file is.
-pub record Accepted (s : List ℕ) : Type 0 where
-  pub read : fixed_form s ≡ Ok (fixed_fields s)
-  pub kept : fields_fault s (fixed_fields s) ≡ None
-  pub headers : section_fault (fixed_fields s).total (fixed_fields s).var_offset (section_of s (fixed_fields s)) ≡ None
-
-neither_fault : (first later : Option ReadFault) → fault_or first later ≡ None → (first ≡ None) × (later ≡ None)
-neither_fault None later h = (refl, h)
-neither_fault (Some first) later h = cc
-
-accepted_form : (s : List ℕ) (form : Result FixedHeader ReadFault) → fixed_form s ≡ form → faults_behind s form ≡ None → Accepted s
-accepted_form s (Err fault) read h = cc
-accepted_form s (Ok fixed) read h =
-    let same = fixed_form-fields s fixed read in
-    let both = neither_fault (fields_fault s fixed) _ h in
-    record {
-      read = read ∙ ap (λ f. Ok f) same;
-      kept = ap (fields_fault s) (sym same) ∙ both.0;
-      headers = ap (λ (f : FixedHeader). section_fault f.total f.var_offset (section_of s f)) (sym same) ∙ both.1;
-    }
-
-pub accepted_is : (s : List ℕ) → IsAccepted s → Accepted s
-unfolding fault_of
-accepted_is s h = accepted_form s (fixed_form s) refl h
 
 -- a cut file is refused
 pub truncated : (s : List ℕ) (n : ℕ) → IsAccepted s → n < (fixed_fields s).total → fault_of (take n s) ≡ Some (cut_fault n)

@@ -9,20 +9,19 @@ use Rattle.igvm_headers.specs.declared.header.Header.{Header}
 use Rattle.igvm_headers.specs.declared.header.Header.TheVariants.{Page, Insert}
 use Rattle.igvm_headers.specs.declared.fault.HeaderFault.{HeaderFault}
 use Rattle.igvm_headers.specs.declared.fault.ReadFault.{ReadFault}
-use Rattle.igvm_headers.specs.declared.fixed.FixedHeader.{FixedHeader}
-use Rattle.igvm_headers.specs.Fixed.{fixed_form, fixed_fields}
+use Rattle.igvm_headers.specs.Fixed.{fixed_fields}
 use Rattle.igvm_headers.specs.Pages.{file_body}
 use Rattle.igvm_headers.specs.declared.fault.ReadWhat.{ReadWhat}
-use Rattle.igvm_headers.specs.declared.fault.ReadWhat.TheVariants.{Order, Mask, Align, AreaLimit, AreaRepeated, AreaUnknown, AreaSize, Wrap}
 use Rattle.igvm_image.specs.declared.area_table.AreaEntry.{AreaEntry}
 use Rattle.igvm_image.specs.Areas.{areas_of, area_entry, area_size}
 use Rattle.igvm_image.specs.Pieces.{Piece, size_of, cut}
-use Rattle.igvm_image.specs.Rules.{Seen, seen_of, rule_fault, breaks_order, breaks_mask, breaks_align, breaks_area_limit, breaks_area_repeated, breaks_area_unknown, breaks_area_size, breaks_wrap}
-use Rattle.igvm_image.specs.Reading.{judged, headers_fault, unless_fault, fault_of, section_fault, section_of, fields_fault, fault_or, faults_behind}
-use Rattle.igvm_image.specs.Headers.{PlacedHeader, placed_from, placed_before, placed_header, decoded, decoded_before, headers_of, placed_headers, pieces_of}
+use Rattle.igvm_image.specs.Rules.{Seen, seen_of}
+use Rattle.igvm_image.specs.Reading.{judged, headers_fault, unless_fault, section_of}
+use Rattle.igvm_image.specs.Headers.{PlacedHeader, IsAccepted, placed_from, placed_before, placed_header, decoded, decoded_before, headers_of, placed_headers, pieces_of}
 use Rattle.igvm_image.specs.Fits.{PagesFit}
-use Rattle.igvm_image.proofs.HeadersLemmas.{fixed_form-fields, map-placed_from}
-use Rattle.igvm_image.proofs.Walking.{not_chosen, judged_ok}
+use Rattle.igvm_image.specs.RulesLaws.{KeepsRules, keeps_rules}
+use Rattle.igvm_image.specs.AcceptedLaws.{accepted_is, judged_ok}
+use Rattle.igvm_image.proofs.HeadersLemmas.{map-placed_from}
 use Rattle.igvm_image.proofs.RulesLemmas.{areas_of-push, areas_of-cons}
 
 -- an area that is declared keeps its size where more are
@@ -39,36 +38,17 @@ area_size-append (entry ∷ areas) more area known =
     by_test true known rest = refl
     by_test false known rest = rest known
 
--- what the rules on one header say of its pages
-record PageRules (seen : Seen) (h : Header) : Type 0 where
-  pub align : breaks_align h ≡ false
-  pub unknown : breaks_area_unknown seen h ≡ false
-  pub wrap : breaks_wrap seen h ≡ false
-
-page_rules : (total : ℕ) (seen : Seen) (h : Header) → rule_fault total seen h ≡ None → PageRules seen h
-unfolding rule_fault
-page_rules total seen h none =
-    let order = not_chosen (breaks_order seen h) Order _ none in
-    let mask = not_chosen (breaks_mask seen h) Mask _ order.1 in
-    let align = not_chosen (breaks_align h) Align _ mask.1 in
-    let limit = not_chosen (breaks_area_limit seen h) AreaLimit _ align.1 in
-    let repeated = not_chosen (breaks_area_repeated seen h) AreaRepeated _ limit.1 in
-    let unknown = not_chosen (breaks_area_unknown seen h) AreaUnknown _ repeated.1 in
-    let size = not_chosen (breaks_area_size h) AreaSize _ unknown.1 in
-    let wrap = not_chosen (breaks_wrap seen h) Wrap _ size.1 in
-    record { align = align.0; unknown = unknown.0; wrap = wrap.0 }
-
 is_zero : (n : ℕ) → not (n == 0) ≡ false → n ≡ 0
 is_zero n h = grind arith
 
 -- a header fits among all areas, the first of which stand before it
-fits : (seen : Seen) (more : List AreaEntry) (h : Header) → PageRules seen h → PagesFit (seen.areas ++ more) h
-fits seen more (Page gpa mask offset large unmeasured kind) rules = is_zero (gpa % (if large then 2097152 else 4096)) rules.align
-fits seen more (Insert gpa mask area) rules =
+fits : (total : ℕ) (seen : Seen) (more : List AreaEntry) (h : Header) → KeepsRules total seen h → PagesFit (seen.areas ++ more) h
+fits total seen more (Page gpa mask offset large unmeasured kind) rules = is_zero (gpa % (if large then 2097152 else 4096)) rules.align
+fits total seen more (Insert gpa mask area) rules =
     let same = area_size-append seen.areas more area rules.unknown in
     let small = ltb-false (2 ^ 64) (gpa + unwrap_or (area_size seen.areas area) 0) rules.wrap in
     subst (λ (size : Option ℕ). gpa + unwrap_or size 0 ≤ 2 ^ 64) (sym same) small
-fits seen more _ rules = tt
+fits total seen more _ rules = tt
 
 -- one header, where those behind it fit
 fits_next : (total at : ℕ) (before : List Header) (p : Piece) (ps : List Piece) (all : List AreaEntry) (body : List ℕ) (index place : ℕ)
@@ -89,7 +69,7 @@ fits_next total at before p ps all body index place others next (Ok h) is none s
     ∙ append_assoc (areas_of before) (option_to_list (area_entry h)) (areas_of (decoded ps))
     ∙ ap (λ a. areas_of before ++ a) (sym (areas_of-cons h (decoded ps)))
     ∙ split in
-    let here = fits (seen_of before) (areas_of (h ∷ decoded ps)) h (page_rules total (seen_of before) h accepted.rules) in
+    let here = fits total (seen_of before) (areas_of (h ∷ decoded ps)) h (keeps_rules total (seen_of before) h accepted.rules) in
     subst (λ (form : Result Header HeaderFault). AllByRecursion (λ placed. PagesFit all placed.header) (placed_before (placed_header body index place p) form others))
     (sym accepted.form)
     (subst (λ (areas : List AreaEntry). PagesFit areas h) split here, behind h none more)
@@ -106,24 +86,11 @@ fits_from total start at before (p ∷ ps) rest all body index place none same =
     (judged total (seen_of before) p) refl none same
     (λ h none' same'. fits_from total start (at + size_of p) (before ++ h ∷ []) ps rest all body (suc index) (place + size_of p) none' same')
 
-later_none : (first later : Option ReadFault) → fault_or first later ≡ None → later ≡ None
-later_none None later h = h
-later_none (Some fault) later h = cc
-
--- in an accepted file no header has a fault
-section_none : (file : List ℕ) (form : Result FixedHeader ReadFault) → fixed_form file ≡ form → faults_behind file form ≡ None
-    → section_fault (fixed_fields file).total (fixed_fields file).var_offset (section_of file (fixed_fields file)) ≡ None
-section_none file (Err fault) read none = cc
-section_none file (Ok fixed) read none =
-    ap (λ (f : FixedHeader). section_fault f.total f.var_offset (section_of file f)) (sym (fixed_form-fields file fixed read))
-    ∙ later_none (fields_fault file fixed) (section_fault fixed.total fixed.var_offset (section_of file fixed)) none
-
 -- the headers of an accepted file fit among its areas
-pub headers_fit : (file : List ℕ) → fault_of file ≡ None
+pub headers_fit : (file : List ℕ) → IsAccepted file
     → AllByRecursion (λ placed. PagesFit (areas_of (headers_of file)) placed.header) (placed_headers file)
-unfolding fault_of
 headers_fit file accepted =
     let fixed = fixed_fields file in
     fits_from fixed.total fixed.var_offset fixed.var_offset [] (pieces_of file) (cut (section_of file fixed)) (areas_of (headers_of file))
-    (file_body file) 0 fixed.var_offset (section_none file (fixed_form file) refl accepted)
+    (file_body file) 0 fixed.var_offset (accepted_is file accepted).headers
     (ap areas_of (sym (map-placed_from (file_body file) 0 fixed.var_offset (pieces_of file))))

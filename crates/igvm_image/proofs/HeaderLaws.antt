@@ -13,8 +13,7 @@ use Rattle.igvm_image.specs.Rules.{seen_of}
 use Rattle.igvm_image.specs.Reading.{judged, headers_fault, unless_fault, section_of}
 use Rattle.igvm_image.specs.Headers.{IsAccepted, placed_from, placed_before, placed_header, placed_headers, pieces_of}
 use Rattle.igvm_image.specs.Laws.{Spells}
-use Rattle.igvm_image.proofs.CutLaws.{accepted_is}
-use Rattle.igvm_image.proofs.Walking.{judged_ok}
+use Rattle.igvm_image.specs.AcceptedLaws.{accepted_is, judged_ok}
 
 -- each of these pieces decodes
 unfoldable AllDecode : List Piece → Type 0

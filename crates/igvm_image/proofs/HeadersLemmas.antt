@@ -9,6 +9,7 @@ use Rattle.igvm_headers.specs.declared.fault.HeaderFault.{HeaderFault}
 use Rattle.igvm_headers.specs.declared.fixed.FixedHeader.{FixedHeader}
 use Rattle.igvm_image.specs.Pieces.{Piece, piece_at, pieces, pieces_within, size_of}
 use Rattle.igvm_image.specs.Headers.{placed_from, placed_before, placed_header, decoded, decoded_before, headers_of, pieces_of}
+use Rattle.igvm_image.specs.AcceptedLaws.{fixed_form-fields}
 use Rattle.igvm_image.proofs.PiecesLemmas.{pieces-end, pieces-step, piece_at-shorter, piece_at-empty, pieces_within-none, pieces_within-some}
 use Rattle.igvm_image.specs.Reading.{fault_of, fields_fault, faults_behind, fault_or, section_fault, section_of}
 use Rattle.igvm_image.proofs.Walking.{piece_at-behind}
@@ -90,11 +91,6 @@ map-placed_from body index at (p ∷ ps) =
         ≡ decoded_before form (decoded ps)
     cases (Ok header) h = ap (λ hs. header ∷ hs) h
     cases (Err fault) h = refl
-
--- the fields where the fixed header is read
-pub fixed_form-fields : (file : List ℕ) (fixed : FixedHeader) → fixed_form file ≡ Ok fixed → fixed ≡ fixed_fields file
-unfolding fixed_form
-fixed_form-fields file fixed h = grind arith
 
 -- the fault of a file whose fixed header keeps the rules is that of its headers
 pub fault_of-section : (file : List ℕ) (fixed : FixedHeader) → fixed_form file ≡ Ok fixed → fields_fault file fixed ≡ None

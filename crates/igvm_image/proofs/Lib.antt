@@ -1,6 +1,6 @@
 pub mod PiecesLemmas
 pub mod RulesLemmas
-pub mod Room
+pub mod RoomLemmas
 pub mod Walking
 pub mod HeadersLemmas
 pub mod FitsLemmas

@@ -10,8 +10,9 @@ use Rattle.igvm_headers.specs.declared.fixed.FixedHeader.{FixedHeader}
 use Rattle.igvm_image.specs.Reading.{fields_fault, section_of, section_fault, checked_bytes}
 use Rattle.igvm_image.specs.Pieces.{pieces}
 use Rattle.igvm_image.specs.Headers.{IsAccepted, placed_headers, placed_from}
+use Rattle.igvm_image.specs.AcceptedLaws.{accepted_is}
 use Rattle.igvm_image.proofs.HeadersLemmas.{fault_of-section}
-use Rattle.igvm_image.proofs.CutLaws.{HasFixed, HasFields, accepted_is, has_fixed, has_fields, fixed_form-read, fields_fault-none, number_at-take, slice-take, fixed_fields-take}
+use Rattle.igvm_image.proofs.CutLaws.{HasFixed, HasFields, has_fixed, has_fields, fixed_form-read, fields_fault-none, number_at-take, slice-take, fixed_fields-take}
 
 -- the first bytes are the file's
 front : (s t : List ℕ) → take (length s) (s ++ t) ≡ s

@@ -1,29 +1,26 @@
 -- What the reader keeps while it walks a section's headers.
-use Rattle.std.proofs.Common.{◌≡◌, ℕ, ◌+◌, ◌-◌, ◌*◌, ◌<◌, ◌≤◌, List, [], ◌∷◌, ◌++◌, length, refl, sym, ◌∙◌, ap, ap₂, drop, subst, append_assoc, append-nil, length-append, arith, Option, Some, None, Result, Ok, Err, Bool, true, false}
+use Rattle.std.proofs.Common.{◌≡◌, ℕ, ◌+◌, ◌-◌, ◌*◌, ◌<◌, ◌≤◌, List, [], ◌∷◌, ◌++◌, length, refl, sym, ◌∙◌, ap, ap₂, drop, append_assoc, append-nil, length-append, arith, Some, None, Ok, Err}
 use Rattle.std.specs.Prelude.{if◌then◌else◌, ◌==◌}
 use Rattle.std.proofs.lemmas.List.{length-drop, length-take}
 use Rattle.igvm_headers.specs.declared.header.Header.{Header}
-use Rattle.igvm_headers.specs.declared.fault.HeaderFault.{HeaderFault}
 use Rattle.igvm_headers.specs.declared.fault.ReadWhat.{ReadWhat}
-use Rattle.igvm_headers.specs.declared.fault.ReadWhat.TheVariants.{HeaderCut, NoPlatform, Order, Mask, Align, AreaLimit, AreaRepeated, AreaUnknown, AreaSize, Wrap, DataOutside, TooManyPages}
+use Rattle.igvm_headers.specs.declared.fault.ReadWhat.TheVariants.{HeaderCut, NoPlatform}
 use Rattle.igvm_headers.specs.Fixed.{fault_at}
 use Rattle.igvm_headers.specs.Numbers.{number_at}
-use Rattle.igvm_headers.specs.Records.{header_form}
 use Rattle.igvm_image.specs.Pieces.{Piece, piece_at, pieces, cut, size_of, padded_size}
-use Rattle.igvm_image.specs.Rules.{Seen, seen_of, seen_after, rule_fault, breaks_order, breaks_mask, breaks_align, breaks_area_limit, breaks_area_repeated, breaks_area_unknown, breaks_area_size, breaks_wrap, breaks_data, breaks_pages}
-use Rattle.igvm_image.specs.Reading.{judged, judged_form, if_rules_hold, headers_fault, section_fault, end_fault, unless_fault}
+use Rattle.igvm_image.specs.Rules.{Seen, seen_of, seen_after, MayFollow}
+use Rattle.igvm_image.specs.Reading.{judged, headers_fault, section_fault, end_fault, unless_fault}
 use Rattle.igvm_image.specs.Headers.{decoded, decoded_before}
+use Rattle.igvm_image.specs.AcceptedLaws.{judged_ok}
 use Rattle.igvm_image.proofs.PiecesLemmas.{pieces-end, cut-end, pieces-step, cut-step, piece_at-shorter}
 use Rattle.igvm_image.proofs.RulesLemmas.{seen_of-push}
-use Rattle.igvm_image.proofs.Room.{HasRoom, has_room-none, has_room-push}
 
--- The headers before, of which the table is what the rules ask, and what is left is judged as the whole is.
+-- The table is the summary of the headers before, and what is left is judged as the whole is.
 pub record Walking (total start : ℕ) (table : Seen) (count : ℕ) (section rest : List ℕ) : Type 0 where
   pub before : List Header
   pub at : ℕ
   pub seen : table ≡ seen_of before
   pub counted : count ≡ length before
-  pub room : HasRoom (seen_of before)
   pub same : headers_fault total start at before (pieces rest) (cut rest) ≡ section_fault total start section
   pub kept : before ++ decoded (pieces rest) ≡ decoded (pieces section)
   pub place : 0 < length rest → at + length rest ≡ start + length section
@@ -37,61 +34,12 @@ walking_start total start section = record {
   at = start;
   seen = refl;
   counted = refl;
-  room = has_room-none;
   same = refl;
   kept = refl;
   place = λ _. refl;
   within = omega arith;
   few = omega arith;
 }
-
--- a rule that a header does not break
-pub not_chosen : (b : Bool) (what : ReadWhat) (rest : Option ReadWhat) → (if b then Some what else rest) ≡ None → (b ≡ false) × (rest ≡ None)
-not_chosen true what rest h = cc
-not_chosen false what rest h = (refl, h)
-
--- What the table needs to know of a header that breaks no rule.
-pub record Kept (seen : Seen) (h : Header) : Type 0 where
-  pub mask : breaks_mask seen h ≡ false
-  pub limit : breaks_area_limit seen h ≡ false
-  pub pages : breaks_pages seen h ≡ false
-
-pub kept_rules : (total : ℕ) (seen : Seen) (h : Header) → rule_fault total seen h ≡ None → Kept seen h
-unfolding rule_fault
-kept_rules total seen h none =
-    let order = not_chosen (breaks_order seen h) Order _ none in
-    let mask = not_chosen (breaks_mask seen h) Mask _ order.1 in
-    let align = not_chosen (breaks_align h) Align _ mask.1 in
-    let limit = not_chosen (breaks_area_limit seen h) AreaLimit _ align.1 in
-    let repeated = not_chosen (breaks_area_repeated seen h) AreaRepeated _ limit.1 in
-    let unknown = not_chosen (breaks_area_unknown seen h) AreaUnknown _ repeated.1 in
-    let size = not_chosen (breaks_area_size h) AreaSize _ unknown.1 in
-    let wrap = not_chosen (breaks_wrap seen h) Wrap _ size.1 in
-    let data' = not_chosen (breaks_data total h) DataOutside _ wrap.1 in
-    let pages = not_chosen (breaks_pages seen h) TooManyPages None data'.1 in
-    record { mask = mask.0; limit = limit.0; pages = pages.0 }
-
--- What an accepted header is.
-pub record Accepted (total : ℕ) (seen : Seen) (p : Piece) (h : Header) : Type 0 where
-  pub form : header_form p.kind p.content ≡ Ok h
-  pub rules : rule_fault total seen h ≡ None
-
-rules_hold : (h g : Header) (fault : Option ReadWhat) → if_rules_hold h fault ≡ Ok g → (h ≡ g) × (fault ≡ None)
-rules_hold h g None e = (cc, refl)
-rules_hold h g (Some what) e = cc
-
-form_holds : (total : ℕ) (seen : Seen) (form : Result Header HeaderFault) (h : Header) → judged_form total seen form ≡ Ok h
-    → (form ≡ Ok h) × (rule_fault total seen h ≡ None)
-form_holds total seen (Err e) h same = cc
-form_holds total seen (Ok g) h same =
-    let both = rules_hold g h (rule_fault total seen g) same in
-    (ap (λ x. Ok x) both.0, sym (ap (rule_fault total seen) both.0) ∙ both.1)
-
-pub judged_ok : (total : ℕ) (seen : Seen) (p : Piece) (h : Header) → judged total seen p ≡ Ok h → Accepted total seen p h
-unfolding judged
-judged_ok total seen p h same =
-    let both = form_holds total seen (header_form p.kind p.content) h same in
-    record { form = both.0; rules = both.1 }
 
 -- what stands behind a header, and its size
 content_size : (s : List ℕ) (p : Piece) (r : List ℕ) → piece_at s ≡ Some (p, r) → length p.content ≡ number_at 4 4 s
@@ -132,7 +80,6 @@ unfolding headers_fault decoded
 walking_step total start table count section rest p r h w found good =
     let here : judged total (seen_of w.before) p ≡ Ok h = ap (λ t. judged total t p) (sym w.seen) ∙ good in
     let accepted = judged_ok total (seen_of w.before) p h here in
-    let rules = kept_rules total (seen_of w.before) h accepted.rules in
     let shorter = piece_at-shorter rest p r found in
     let behind = ap length (piece_at-behind rest p r found) ∙ length-drop (size_of p) rest in
     let next = λ (header : Header). headers_fault total start (w.at + size_of p) (w.before ++ header ∷ []) (pieces r) (cut r) in
@@ -143,7 +90,6 @@ walking_step total start table count section rest p r h w found good =
       at = w.at + size_of p;
       seen = ap (λ t. seen_after t h) w.seen ∙ sym (seen_of-push w.before h);
       counted = ap (λ n. n + 1) w.counted ∙ sym (length-append w.before (h ∷ []));
-      room = subst HasRoom (sym (seen_of-push w.before h)) (has_room-push (seen_of w.before) h w.room rules.mask rules.pages);
       same = sym (ap₂ (λ ps c. headers_fault total start w.at w.before ps c) (pieces-step rest p r found) (cut-step rest p r found)
           ∙ ap (λ j. unless_fault w.at j next) here) ∙ w.same;
       kept = append_assoc w.before (h ∷ []) (decoded (pieces r))
@@ -187,14 +133,9 @@ unfolding decoded
 walking_all total start table count section rest w none =
     sym (append-nil w.before) ∙ ap (λ ps. w.before ++ decoded ps) (sym (pieces-end rest none)) ∙ w.kept
 
--- what the table needs where one more header is taken in
-pub walking_kept : (total start : ℕ) (table : Seen) (count : ℕ) (section rest : List ℕ) (p : Piece) (h : Header)
-    → (w : Walking total start table count section rest) → judged total table p ≡ Ok h → Kept table h
-walking_kept total start table count section rest p h w good =
-    kept_rules total table h (judged_ok total table p h good).rules
-
-pub walking_room : (total start : ℕ) (table : Seen) (count : ℕ) (section rest : List ℕ) → Walking total start table count section rest → HasRoom table
-walking_room total start table count section rest w = subst HasRoom (sym w.seen) w.room
+-- a header that is accepted may follow
+pub walking_follows : (total : ℕ) (table : Seen) (p : Piece) (h : Header) → judged total table p ≡ Ok h → MayFollow table h
+walking_follows total table p h good = (total, (judged_ok total table p h good).rules)
 
 -- a content is no longer than the section
 pub walking_content : (s : List ℕ) (p : Piece) (r : List ℕ) → piece_at s ≡ Some (p, r) → length p.content ≤ length s

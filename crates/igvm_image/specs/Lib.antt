@@ -3,6 +3,8 @@ pub mod Pieces
 pub mod PieceView
 pub mod Areas
 pub mod Rules
+pub mod RulesLaws
+pub mod Room
 pub mod Reading
 pub mod Headers
 pub mod PlacedView
@@ -10,6 +12,7 @@ pub mod View
 pub mod Fits
 pub mod Split
 pub mod Laws
+pub mod AcceptedLaws
 pub mod FirstFault
 pub use Rattle.igvm_headers.specs.Numbers
 pub use Rattle.igvm_headers.specs.Pages

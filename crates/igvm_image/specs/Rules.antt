@@ -1,5 +1,5 @@
 -- The rules on a header among those before it: docs/FORMAT.md has them in words, in this order.
-use Rattle.std.specs.Prelude.{ℕ, ◌+◌, ◌/◌, ◌%◌, ◌^◌, max, List, [], ◌∷◌, ◌++◌, length, fold, ◌==◌, ◌&&◌, ◌||◌, nat_lt, nat_le, not, is_some, is_none, unwrap_or, if◌then◌else◌, Bool, false, Option, Some, None}
+use Rattle.std.specs.Prelude.{◌≡◌, ℕ, ◌+◌, ◌/◌, ◌%◌, ◌^◌, max, List, [], ◌∷◌, ◌++◌, length, fold, ◌==◌, ◌&&◌, ◌||◌, nat_lt, nat_le, not, is_some, is_none, unwrap_or, if◌then◌else◌, Bool, false, Option, Some, None}
 use Rattle.std.specs.List.{list_any}
 use Rattle.igvm_headers.specs.Records.{is_set}
 use Rattle.igvm_headers.specs.declared.header.Header.{Header}
@@ -148,3 +148,7 @@ rule_fault total seen header =
     if breaks_data total header then Some DataOutside else
     if breaks_pages seen header then Some TooManyPages else
     None
+
+-- a header breaks none of these rules behind those, in a file of some total size
+abbrev pub MayFollow : Seen → Header → Type 0
+MayFollow seen header = (total : ℕ) × (rule_fault total seen header ≡ None)

@@ -3,11 +3,12 @@ ghost use Rattle.std.specs.Prelude.{◌≡◌, ◌↔◌, ℕ, ◌<◌, List, �
 ghost use Rattle.std.specs.List.{slice_get};
 ghost use Rattle.igvm_headers.specs.Fixed.{fixed_fields};
 ghost use Rattle.igvm_headers.specs.declared.header.Header.{Header};
+ghost use Rattle.platform_masks.specs.Platforms.{platforms_of};
 ghost use Rattle.igvm_image.specs.Pieces.{Piece, pieces, cut};
 ghost use Rattle.igvm_image.specs.Split.{Split};
 ghost use Rattle.igvm_image.specs.Reading.{fault_of};
-ghost use Rattle.igvm_image.specs.Headers.{IsAccepted, pieces_of, placed_headers};
-ghost use Rattle.igvm_image.specs.Laws.{Spells, cut_fault};
+ghost use Rattle.igvm_image.specs.Headers.{PlacedHeader, IsAccepted, pieces_of, placed_headers, headers_of};
+ghost use Rattle.igvm_image.specs.Laws.{Spells, IsHeaderOf, cut_fault};
 ghost use Rattle.igvm_image.specs.FirstFault.{KeepsFileRules, KeepsHeaderRules, IsFirstFault};
 ghost use Rattle.igvm_headers.specs.declared.fault.ReadFault.{ReadFault};
 
@@ -24,6 +25,15 @@ pub fn headers_are_the_pieces()
         → length (placed_headers file) ≡ length (pieces_of file) }
     ensures each { (file : List ℕ) (k : ℕ) (p : Piece) → IsAccepted file
         → slice_get (pieces_of file) k ≡ Some p → (header : Header) × Spells file k p header }
+{}
+
+/// Each header of an accepted file has the form of its type, has its own data, and breaks no rule behind
+/// the headers before it; and one of them is a platform.
+pub fn accepted_headers()
+    ensures each { (file : List ℕ) (k : ℕ) (placed : PlacedHeader) → IsAccepted file
+        → slice_get (placed_headers file) k ≡ Some placed → IsHeaderOf file k placed }
+    ensures platform { (file : List ℕ) → IsAccepted file
+        → 0 < length (platforms_of (headers_of file)) }
 {}
 
 /// The fault of a file that keeps the rules on the whole file: that of the first header that breaks a rule,

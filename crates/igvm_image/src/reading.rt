@@ -9,7 +9,7 @@ ghost use Rattle.igvm_image.specs.Pieces.{pieces};
 ghost use Rattle.igvm_image.specs.PieceView.{piece_view};
 
 use crate::piece::{Piece, split_piece};
-use crate::table::Table;
+use crate::seen_headers::SeenHeaders;
 use igvm_headers::{
     FixedHeader, Header, HeaderFault, ReadFault, ReadWhat, crc_begin, crc_end, crc_more,
     decode_header, read_fixed,
@@ -18,7 +18,7 @@ use igvm_headers::{
 /// What the headers of an accepted section are to a view.
 #[derive(Drop)]
 pub(crate) struct Contents {
-    pub table: Table,
+    pub seen: SeenHeaders,
     pub count: u32,
 }
 
@@ -35,18 +35,17 @@ fn what_of(fault: HeaderFault) -> ReadWhat
     }
 }
 
-/// A header behind those of a table, or the first rule that it breaks.
+/// A header behind those seen, or the first rule that it breaks.
 #[tactic(auto, unfolding(crate::specs::Reading::judged))]
-fn judged(table: &Table, total: u32, piece: &Piece<'_>) -> Result<Header, ReadWhat>
-    requires pages { table.now.pages ≤ 4194304 }
-    requires size { length piece.now.content.now < 2 ^ 32 }
-    ensures { result ≡ judged total table.now (piece_view piece.now).0 }
+fn judged(seen: &SeenHeaders, total: u32, piece: &Piece<'_>) -> Result<Header, ReadWhat>
+    requires { length piece.now.content.now < 2 ^ 32 }
+    ensures { result ≡ judged total seen.now (piece_view piece.now).0 }
 {
     let header = match decode_header(piece.kind, piece.content) {
         Ok(header) => header,
         Err(fault) => return Err(what_of(fault)),
     };
-    match table.rule_fault(total, &header) {
+    match seen.rule_fault(total, &header) {
         None => Ok(header),
         Some(what) => Err(what),
     }
@@ -104,20 +103,20 @@ fn checksum(fixed: &[u8], section: &[u8]) -> u32
 pub(crate) fn read_section(section: &[u8], start: u32, total: u32) -> Result<Contents, ReadFault>
     requires { start + length section.now ≤ total }
     ensures accepted { OnOk result (section_fault total start section.now ≡ None) }
-    ensures seen { IfOk result (λ c. c.table ≡ seen_of (decoded (pieces section.now))) }
+    ensures seen { IfOk result (λ c. c.seen ≡ seen_of (decoded (pieces section.now))) }
     ensures count { IfOk result (λ c. c.count ≡ length (decoded (pieces section.now))) }
     ensures fault { IfErr result (λ e. section_fault total start section.now ≡ Some e) }
 {
-    let mut table = Table::new();
+    let mut seen = SeenHeaders::new();
     let mut count = 0;
     let mut rest = section;
     'headers: while let Some(piece) = split_piece(rest) {
         let at = start + (section.len() - rest.len()) as u32;
-        let header = match judged(&table, total, &piece) {
+        let header = match judged(&seen, total, &piece) {
             Ok(header) => header,
             Err(what) => return Err(ReadFault { at, what }),
         };
-        table.push(&header);
+        seen.push(&header);
         count += 1;
         rest = piece.rest;
     }
@@ -126,11 +125,11 @@ pub(crate) fn read_section(section: &[u8], start: u32, total: u32) -> Result<Con
         let what = ReadWhat::HeaderCut;
         return Err(ReadFault { at, what });
     }
-    if table.platforms().count() == 0 {
+    if seen.platforms().count() == 0 {
         let what = ReadWhat::NoPlatform;
         return Err(ReadFault { at: start, what });
     }
-    Ok(Contents { table, count })
+    Ok(Contents { seen, count })
 }
 
 /// The fixed header of a file that keeps the rules on the whole file, or the first that it breaks.

@@ -10,7 +10,7 @@ ghost use Rattle.igvm_image.specs.Headers.{IsAccepted, placed_headers, headers_o
 
 use crate::headers::Headers;
 use crate::reading::{body_of, check_file, read_section, section_of};
-use crate::table::Table;
+use crate::seen_headers::SeenHeaders;
 use igvm_headers::{FixedHeader, ReadFault};
 use platform_masks::Platforms;
 use std::marker::Model;
@@ -20,7 +20,7 @@ use std::marker::Model;
 pub struct ImageView<'a> {
     file: &'a [u8],
     fixed: FixedHeader,
-    table: Table,
+    seen: SeenHeaders,
     count: u32,
 }
 
@@ -53,7 +53,7 @@ pub fn open_image(file: &[u8]) -> Result<ImageView<'_>, ReadFault>
     Ok(ImageView {
         file,
         fixed,
-        table: contents.table,
+        seen: contents.seen,
         count: contents.count,
     })
 }
@@ -78,21 +78,21 @@ impl<'a> ImageView<'a> {
     pub fn platforms(&self) -> &Platforms
         ensures { result.now ≡ platforms_of (headers_of self.now) }
     {
-        self.table.platforms()
+        self.seen.platforms()
     }
 
     /// The size in bytes of the parameter area of an index, or None where no header declares it.
     pub fn area_bytes(&self, area: u32) -> Option<u64>
         ensures { result ≡ area_size (areas_of (headers_of self.now)) area }
     {
-        self.table.area_bytes(area)
+        self.seen.area_bytes(area)
     }
 
     /// The headers in file order.
     pub fn headers(&self) -> Headers<'a>
         ensures placed { result ≡ placed_headers self.now }
         ensures few { length result < 2 ^ 32 }
-        // A page lies at a multiple of its size; an inserted area ends within the address space.
+        // A page's address is a multiple of its size; an inserted area ends at 2^64 at the latest.
         ensures fit { AllByRecursion (λ p. PagesFit (areas_of (headers_of self.now)) p.header) result }
     {
         let section = section_of(self.file, &self.fixed);

@@ -3,7 +3,7 @@ use Rattle.igvm_image.proofs.Walking.{Walking}
 use Rattle.igvm_image.proofs.reading.read_section.Given as goal
 
 abbrev pub invariant-headers : goal.invariant-headers
-invariant-headers l = Walking l.total l.start l.table l.count l.section l.rest
+invariant-headers l = Walking l.total l.start l.seen l.count l.section l.rest
 
 abbrev pub decreases-headers : goal.decreases-headers
 decreases-headers l = length l.rest

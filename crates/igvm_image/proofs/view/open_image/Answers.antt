@@ -1,7 +1,8 @@
 use Rattle.std.proofs.Common.{◌∙◌, sym, ap, length}
 use Rattle.igvm_image.specs.Rules.{seen_of}
 use Rattle.igvm_image.specs.Reading.{section_fault}
-use Rattle.igvm_image.proofs.HeadersLemmas.{fixed_form-fields, fault_of-section, decoded-headers_of}
+use Rattle.igvm_image.specs.AcceptedLaws.{fixed_form-fields}
+use Rattle.igvm_image.proofs.HeadersLemmas.{fault_of-section, decoded-headers_of}
 use Rattle.std.proofs.lemmas.List.{length-map}
 use Rattle.igvm_image.specs.Headers.{PlacedHeader, placed_headers}
 use Rattle.igvm_image.proofs.view.open_image.Goals as goal
@@ -23,7 +24,7 @@ invariant_of-result c =
           ∙ ap (section_fault fixed.total fixed.var_offset) (sym c.section_of-section.ensures.value)
           ∙ c.in-Ok.ensures.accepted;
       fixed = fixed_form-fields file fixed c.in_ok-fixed.ensures.fields;
-      table = c.in-Ok.ensures.seen ∙ ap seen_of headers;
+      seen = c.in-Ok.ensures.seen ∙ ap seen_of headers;
       count = c.in-Ok.ensures.count ∙ ap length headers ∙ length-map (placed_headers file) (λ (placed : PlacedHeader). placed.header);
       section = c.in_ok-fixed.ensures.section;
       total = c.in_ok-fixed.ensures.total;
