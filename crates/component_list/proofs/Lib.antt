@@ -7,4 +7,5 @@ pub mod EntryWalks
 pub mod JsonTexts
 pub mod PageParts
 pub mod Added
+pub mod Reached
 pub mod Stepping

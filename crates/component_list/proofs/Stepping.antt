@@ -1,20 +1,20 @@
 -- The directives of a list expanded in order.
-use Rattle.std.proofs.Common.{◌⊎◌, inl, inr, ◌≡◌, ℕ, suc, ◌+◌, ◌<◌, ◌≤◌, List, [], ◌∷◌, ◌++◌, length, get_or, take, drop, map, refl, sym, ◌∙◌, ap, subst, add-one, drop-cons, length-append, arith, Option, Some, None, Result, Ok, Err, Bool, true, false}
+use Rattle.std.proofs.Common.{◌⊎◌, inl, inr, ◌≡◌, ℕ, suc, ◌+◌, ◌<◌, ◌≤◌, List, [], ◌∷◌, ◌++◌, length, get_or, take, drop, map, length-take-le, refl, sym, ◌∙◌, ap, subst, add-one, drop-cons, length-append, arith, Option, Some, Result, Ok, Err, Bool, true, false}
 use Rattle.std.specs.Prelude.{IfSome, IfErr, is_some, ◌||◌, slice_get, option_and_then}
-use Rattle.std.specs.List.{AllByRecursion, list_any}
+use Rattle.std.specs.List.{AllByRecursion}
 use Rattle.std.proofs.lemmas.List.{take_more, take_all, length-map, take-append-drop}
 use Rattle.std.proofs.lemmas.Option.{slice_get-get_or}
 use Rattle.std.proofs.lemmas.List.Folds.{list_any-append}
 use Rattle.igvm_headers.specs.declared.header.Header.{Header}
 use Rattle.igvm_headers.specs.Causes.{Rose}
 use Rattle.igvm_outside.specs.Files.{Files, State, NeverFalls, IsUnwritten}
-use Rattle.component_list.specs.declared.component.Component.{Component}
 use Rattle.component_list.specs.declared.refusal.ExpandRefusal.{ExpandRefusal}
 use Rattle.component_list.specs.declared.refusal.ExpandRefusal.TheVariants.{Read, TooLong, TooLarge, Rule, Memory}
 use Rattle.component_list.specs.declared.refusal.ListPart.{ListPart}
 use Rattle.component_list.specs.declared.source.Directive.{Directive}
 use Rattle.component_list.specs.SourceViews.{Source}
-use Rattle.component_list.specs.Expansion.{◌>>=◌, Progress, added, begun, expanded_from, expand_of, file_of, given_by, judged, looked_at, names_file, plain_part, IsGivenRight, IsOfDirective, IsRule, ReadHasCause}
+use Rattle.component_list.specs.Expansion.{◌>>=◌, Progress, added, begun, expanded_from, file_of, given_by, looked_at, names_file, plain_part, IsGivenRight, IsOfDirective, IsRule, ReadHasCause}
+use Rattle.component_list.proofs.Reached.{one_more}
 use Rattle.component_list.proofs.Added.{Keeps, IsAtStart, added_is, added_keeps, starts_append, offset_0}
 
 -- What is kept of the shelf as it is now and at entry, and of what is expanded.
@@ -29,6 +29,8 @@ pub record Expanding {S : Type 0} (told : S → Option Files) (state : S → Sta
   pub short : names_file (take item source.directives) ≡ true → given now ≤ 536870912
   pub same : (files : Files) → told first ≡ Some files
       → expanded_from files item (drop item source.directives) progress ≡ expanded_from files 0 source.directives (begun source)
+  pub reached : (files : Files) → told first ≡ Some files
+      → expanded_from files 0 (take item source.directives) (begun source) ≡ Ok progress
 
 plain_starts : (hs : List Header) → AllByRecursion IsAtStart (map plain_part hs)
 plain_starts [] = tt
@@ -51,59 +53,12 @@ left ds item d within is =
     drop-cons ds item d within ∙ ap (λ x. x ∷ drop (suc item) ds) (sym is) ∙ ap (λ n. d ∷ drop n ds) (sym (add-one item))
 
 -- one step, and the others behind it
-given_fails : (files : Files) (item : ℕ) (d : Directive) (ds : List Directive) (p : Progress) (e : ExpandRefusal)
-    → given_by files item (file_of d) ≡ Err e → expanded_from files item (d ∷ ds) p ≡ Err e
-given_fails files item d ds p e bad = ap (λ r. r >>= λ file. added item d file p >>= expanded_from files (suc item) ds) bad
-
-added_fails : (files : Files) (item : ℕ) (d : Directive) (ds : List Directive) (p : Progress) (file : Option (List ℕ)) (e : ExpandRefusal)
-    → given_by files item (file_of d) ≡ Ok file → added item d file p ≡ Err e → expanded_from files item (d ∷ ds) p ≡ Err e
-added_fails files item d ds p file e good bad =
-    ap (λ r. r >>= λ file. added item d file p >>= expanded_from files (suc item) ds) good
-    ∙ ap (λ r. r >>= expanded_from files (suc item) ds) bad
-
 goes_on : (files : Files) (item : ℕ) (d : Directive) (ds : List Directive) (p q : Progress) (file : Option (List ℕ))
     → given_by files item (file_of d) ≡ Ok file → added item d file p ≡ Ok q → expanded_from files item (d ∷ ds) p ≡ expanded_from files (item + 1) ds q
 goes_on files item d ds p q file good fine =
     ap (λ r. r >>= λ file. added item d file p >>= expanded_from files (suc item) ds) good
     ∙ ap (λ r. r >>= expanded_from files (suc item) ds) fine
     ∙ ap (λ n. expanded_from files n ds q) (sym (add-one item))
-
--- what the whole expansion is
-pub whole_fails : (source : Source) (files : Files) (e : ExpandRefusal) → expanded_from files 0 source.directives (begun source) ≡ Err e → expand_of source files ≡ Err e
-unfolding expand_of
-whole_fails source files e bad = ap (λ r. r >>= judged source) bad
-
-pub whole_is : (source : Source) (files : Files) (p : Progress) → expanded_from files 0 source.directives (begun source) ≡ Ok p → expand_of source files ≡ judged source p
-unfolding expand_of
-whole_is source files p good = ap (λ r. r >>= judged source) good
-
-module _ {S : Type 0} (told : S → Option Files) (state : S → State) (given : S → ℕ) (read_faults write_faults : S → List ℕ → ℕ) where
-  abbrev Walk : S → S → Source → ℕ → Progress → Type 0
-  Walk first now source item p = Expanding told state given read_faults write_faults first now source item p
-
-  -- the file of the directive at a place is refused
-  pub file_refused : (first now : S) (source : Source) (item : ℕ) (p : Progress) (d : Directive) (e : ExpandRefusal) → Walk first now source item p
-      → drop item source.directives ≡ d ∷ drop (item + 1) source.directives
-      → ((files : Files) → told now ≡ Some files → given_by files item (file_of d) ≡ Err e)
-      → (files : Files) → told first ≡ Some files → expand_of source files ≡ Err e
-  file_refused first now source item p d e w here bad files is =
-      whole_fails source files e (sym (w.same files is) ∙ ap (λ ds. expanded_from files item ds p) here
-      ∙ given_fails files item d (drop (item + 1) source.directives) p e (bad files (w.kept ∙ is)))
-
-  -- the directive at a place breaks a rule
-  pub step_refused : (first now : S) (source : Source) (item : ℕ) (p : Progress) (d : Directive) (file : Option (List ℕ)) (e : ExpandRefusal) → Walk first now source item p
-      → drop item source.directives ≡ d ∷ drop (item + 1) source.directives
-      → ((files : Files) → told now ≡ Some files → given_by files item (file_of d) ≡ Ok file) → added item d file p ≡ Err e
-      → (files : Files) → told first ≡ Some files → expand_of source files ≡ Err e
-  step_refused first now source item p d file e w here good bad files is =
-      whole_fails source files e (sym (w.same files is) ∙ ap (λ ds. expanded_from files item ds p) here
-      ∙ added_fails files item d (drop (item + 1) source.directives) p file e (good files (w.kept ∙ is)) bad)
-
-  -- behind the last directive
-  pub ended : (first now : S) (source : Source) (item : ℕ) (p : Progress) → Walk first now source item p → drop item source.directives ≡ []
-      → (files : Files) → told first ≡ Some files → expand_of source files ≡ judged source p
-  ended first now source item p w done files is =
-      whole_is source files p (sym (w.same files is) ∙ ap (λ ds. expanded_from files item ds p) done)
 
 -- ---- what was given
 
@@ -117,6 +72,9 @@ pub taken_of : (all ds : List Directive) (item : ℕ) (d : Directive) → all �
 taken_of all ds item d same within is =
     subst (λ xs. take (item + 1) xs ≡ take item xs ++ d ∷ []) same
     (take_more all item d within ∙ ap (λ x. take item all ++ x ∷ []) (sym is))
+
+pub front_of : (all ds : List Directive) (item : ℕ) → all ≡ ds → item < length all → length (take item ds) ≡ item
+front_of all ds item same within = subst (λ xs. length (take item xs) ≡ item) same (length-take-le item all (omega arith))
 
 -- the directive at a place, by its place
 pub found_of : (all ds : List Directive) (item : ℕ) (d : Directive) → all ≡ ds → item < length all → d ≡ get_or all item d → slice_get ds item ≡ Some d
@@ -154,10 +112,6 @@ names_all ds k h =
 pub told_at : {X : Type 0} (t : Option X) (P : X → Type 0) → IfSome t P → (x : X) → t ≡ Some x → P x
 told_at {X} t P holds x is = subst (λ (o : Option X). IfSome o P) is holds
 
-pub if_told : {X : Type 0} (t : Option X) (P : X → Type 0) → ((x : X) → t ≡ Some x → P x) → IfSome t P
-if_told None P holds = tt
-if_told (Some x) P holds = holds x refl
-
 module _ {S : Type 0} (told : S → Option Files) (state : S → State) (given : S → ℕ) (read_faults write_faults : S → List ℕ → ℕ) where
   abbrev Loop : S → S → Source → ℕ → Progress → Type 0
   Loop first now source item p = Expanding told state given read_faults write_faults first now source item p
@@ -172,16 +126,18 @@ module _ {S : Type 0} (told : S → Option Files) (state : S → State) (given :
     ends = refl;
     short = λ h. cc;
     same = λ files is. refl;
+    reached = λ files is. refl;
   })
 
   pub stepping : (first before now : S) (source : Source) (item : ℕ) (p q : Progress) (d : Directive) (file : Option (List ℕ)) → Loop first before source item p
+      → length (take item source.directives) ≡ item
       → drop item source.directives ≡ d ∷ drop (item + 1) source.directives → take (item + 1) source.directives ≡ take item source.directives ++ d ∷ []
       → told now ≡ told before → NeverFalls (read_faults before) (read_faults now) → NeverFalls (write_faults before) (write_faults now)
       → (IsUnwritten (state before) → IsUnwritten (state now))
       → (is_some (file_of d) ≡ true → given now ≤ 536870912) → (is_some (file_of d) ≡ false → given now ≡ given before)
       → ((files : Files) → told before ≡ Some files → given_by files item (file_of d) ≡ Ok file) → added item d file p ≡ Ok q
       → Loop first now source (item + 1) q
-  stepping first before now source item p q d file w here taken kept reads writes unwritten short same good fine = record {
+  stepping first before now source item p q d file w front here taken kept reads writes unwritten short same good fine = record {
     kept = kept ∙ w.kept;
     reads = λ name. (let old = w.reads name in let new = reads name in omega arith);
     writes = λ name. (let old = w.writes name in let new = writes name in omega arith);
@@ -191,6 +147,7 @@ module _ {S : Type 0} (told : S → Option Files) (state : S → State) (given :
     short = short_more source.directives item d (given before) (given now) taken w.short short same;
     same = λ files is. sym (goes_on files item d (drop (item + 1) source.directives) p q file (good files (w.kept ∙ is)) fine)
         ∙ ap (λ ds. expanded_from files item ds p) (sym here) ∙ w.same files is;
+    reached = λ files is. one_more files source.directives item d file (begun source) p q front taken (w.reached files is) (good files (w.kept ∙ is)) fine;
   }
 
 -- a file that was not read is that of its directive

@@ -1,6 +1,6 @@
 -- The components of a list, where its files hold these bytes, or the first refusal: docs/LIST.md has the order in
 -- words.
-use Rattle.std.specs.Prelude.{◌≡◌, ◌<◌, ◌≤◌, true, is_some, take, option_and_then, slice_get, ℕ, suc, ◌+◌, ◌-◌, ◌*◌, ◌/◌, ◌^◌, List, [], ◌∷◌, ◌++◌, length, map, replicate, position, nat_lt, if◌then◌else◌, Bool, false, Option, Some, None, Result, Ok, Err}
+use Rattle.std.specs.Prelude.{◌≡◌, ◌<◌, ◌≤◌, true, is_some, take, option_and_then, slice_get, ℕ, suc, ◌+◌, ◌-◌, ◌*◌, ◌/◌, ◌^◌, List, [], ◌∷◌, ◌++◌, length, map, replicate, position, nat_lt, if◌then◌else◌, Bool, false, Option, Some, None, Result, Ok, Err, IsOk}
 use Rattle.std.specs.FinMap as finite
 use Rattle.std.specs.List.{range_with_len, list_any}
 use Rattle.igvm_headers.specs.Causes.{Rose}
@@ -243,6 +243,15 @@ abbrev pub ReadHasCause : List Directive → (List ℕ → ℕ) → (List ℕ �
 ReadHasCause directives before now (Read item) =
     (name : List ℕ) × (option_and_then file_of (slice_get directives item) ≡ Some name) × Rose (before name) (now name)
 ReadHasCause directives before now _ = Unit {0}
+
+-- the directives before an entry expand
+abbrev pub BeforeExpands : Source → Files → ℕ → Type 0
+BeforeExpands source files item = IsOk (expanded_from files 0 (take item source.directives) (begun source))
+
+-- a file is read only where the directives before its own expand
+abbrev pub IsReached : Source → Files → ExpandRefusal → Type 0
+IsReached source files (Read item) = BeforeExpands source files item
+IsReached source files _ = Unit {0}
 
 -- some directive names a file
 abbrev pub names_file : List Directive → Bool

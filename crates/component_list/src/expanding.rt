@@ -3,7 +3,7 @@ ghost use Rattle.std.specs.Prelude.{◌≡◌, ◌≢◌, ◌≤◌, ◌<◌, �
 ghost use Rattle.igvm_headers.specs.Causes.{Rose};
 ghost use Rattle.igvm_outside.specs.Files.{NeverFalls, IsUnwritten};
 ghost use Rattle.component_list.specs.Lists.{IsValid};
-ghost use Rattle.component_list.specs.Expansion.{bytes_or_none, expand_of, file_of, given_by, names_file, FollowsFiles, ReadHasCause, IsGivenRight};
+ghost use Rattle.component_list.specs.Expansion.{bytes_or_none, expand_of, file_of, given_by, names_file, FollowsFiles, IsReached, ReadHasCause, IsGivenRight};
 
 use crate::list::ComponentList;
 use crate::progress::Progress;
@@ -28,9 +28,12 @@ pub fn expand<S: Shelf>(
     ensures refused { IfErr result (λ e. FollowsFiles e → IfSome (S.told shelf.old)
         (λ files. expand_of source.now files ≡ Err e)) }
 
-    // A file that is not read has its cause, and one that is too long is known by what it gave.
+    // A file that is not read has its cause, and the directives before its own expand; one that is
+    // too long is known by what it gave.
     ensures cause { IfErr result (λ e. ReadHasCause source.now.directives
         (S.read_faults shelf.old) (S.read_faults shelf.new) e) }
+    ensures reached { IfErr result (λ e. IfSome (S.told shelf.old)
+        (λ files. IsReached source.now files e)) }
     ensures given { IfErr result (λ e.
         IsGivenRight source.now.directives (S.given shelf.new) e) }
     ensures short { OnOk result (names_file source.now.directives ≡ true

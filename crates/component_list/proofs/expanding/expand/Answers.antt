@@ -1,6 +1,6 @@
-use Rattle.std.proofs.Common.{◌≡◌, ◌≤◌, ◌<◌, ◌+◌, ◌^◌, ◌∙◌, ap, length, refl, sym, arith}
-use Rattle.std.specs.Prelude.{option_map}
-use Rattle.component_list.proofs.Stepping.{starting, stepping, left_of, taken_of, found_of, file_cause, given_right, rule_right, short_all, short_more, told_at}
+use Rattle.std.proofs.Common.{◌∙◌, ap, length, sym, arith}
+use Rattle.component_list.proofs.Stepping.{starting, stepping, left_of, taken_of, found_of, front_of, file_cause, given_right, rule_right, short_all, short_more, told_at}
+use Rattle.component_list.proofs.Reached.{read_reached, rules_reached}
 use Rattle.component_list.specs.Expansion.{added}
 use Rattle.component_list.proofs.expanding.expand.Goals as goal
 
@@ -30,6 +30,15 @@ returns-in-Err-clause-cause g c =
     (found_of _ _ _ _ c.directives-directives.ensures.value c.directives-test.true c.index-directives-item.is)
     c.directives.invariant.reads c.in-Err.ensures.which c.in-Err.ensures.cause
 
+pub returns-in-Err-clause-reached : goal.returns-in-Err-clause-reached
+returns-in-Err-clause-reached g c =
+    read_reached (g.S.Shelf.told c.args.shelf.now) c.args.source.now c.directives.item c.directives.progress _
+    c.directives.invariant.reached c.in-Err.ensures.which
+
+pub returns-in-Err-add-clause-reached : goal.returns-in-Err-add-clause-reached
+returns-in-Err-add-clause-reached g c =
+    rules_reached (g.S.Shelf.told c.args.shelf.now) c.args.source.now c.directives.item _ c.in-Err-add.ensures.which
+
 pub returns-in-Err-add-clause-given : goal.returns-in-Err-add-clause-given
 returns-in-Err-add-clause-given g c =
     given_right c.args.source.now.directives c.directives.item _ _ c.in-Err-add.ensures.which
@@ -50,6 +59,7 @@ directives-preserved g c =
     stepping g.S.Shelf.told g.S.Shelf.state g.S.Shelf.given g.S.Shelf.read_faults g.S.Shelf.write_faults
     c.args.shelf.now c.directives.shelf c.read_file.new.shelf c.args.source.now c.directives.item c.directives.progress c.add.new.self d _
     c.directives.invariant
+    (front_of _ _ _ same c.directives-test.true)
     (left_of _ _ _ _ same c.directives-test.true c.index-directives-item.is)
     (taken_of _ _ _ _ same c.directives-test.true c.index-directives-item.is)
     c.read_file.ensures.kept c.read_file.ensures.reads c.read_file.ensures.writes c.read_file.ensures.unwritten
