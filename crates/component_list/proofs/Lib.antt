@@ -9,3 +9,4 @@ pub mod PageParts
 pub mod Added
 pub mod Reached
 pub mod Stepping
+pub mod Equality

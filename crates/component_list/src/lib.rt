@@ -32,7 +32,7 @@ pub use blob::Blob;
 pub use component::{Component, Content};
 pub use expanding::expand;
 pub use image_list::components_of;
-pub use laws::{data_are_a_slice, image_lists_are_valid, offsets_do_not_count};
+pub use laws::{data_are_a_slice, equality_is_exact, image_lists_are_valid, offsets_do_not_count};
 pub use list::ComponentList;
 pub use list_fault::ListFault;
 pub use reading::read_list;

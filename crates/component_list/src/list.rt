@@ -1,5 +1,5 @@
 //! A list of components that breaks no rule.
-ghost use Rattle.std.specs.Prelude.{◌≡◌, ◌<◌, ◌^◌, Some, length, slice_get, OnOk, IfOk, IfErr};
+ghost use Rattle.std.specs.Prelude.{◌≡◌, ◌↔◌, ◌<◌, ◌^◌, IsTrue, Some, length, slice_get, OnOk, IfOk, IfErr};
 ghost use Rattle.std.specs.Option.{option_map};
 ghost use Rattle.std.specs.List.{AllByRecursion};
 ghost use Rattle.std.specs.Cmp.Lexicographic.{pointwise, lists_per, lists_equiv};
@@ -83,7 +83,10 @@ impl PartialEq for ComponentList {
 
     ghost laws = { lists_per laws-law };
 
-    fn eq(&self, other: &ComponentList) -> bool {
+    fn eq(&self, other: &ComponentList) -> bool
+        ensures answer { result ≡ pointwise ⟦<Component as PartialEq>⟧.eq self.now other.now }
+        ensures exact { IsTrue result ↔ (self.now ≡ other.now) }
+    {
         self.components() == other.components()
     }
 }
