@@ -26,17 +26,23 @@ pub rose_before : (a b c : ℕ) → Rose a b → b ≤ c → c ≤ 1844674407370
 rose_before a b c (inl r) h top = inl (omega (arith, h, r))
 rose_before a b c (inr r) h top = inr (omega (arith, h, r, top))
 
-named : (files : Files) (list : List ℕ) (bytes name : List ℕ) → map.get files list ≡ Some bytes → IsNamedIn (source_of bytes) name → IsNamed (Some files) list name
-named files list bytes name same h = subst (λ b. IsNamedIn (source_of b) name) (sym (ap (λ o. unwrap_or o []) same)) h
+named : (files : Files) (list : List ℕ) (bytes name : List ℕ) → map.get files list ≡ Some bytes → IsNamedIn files (source_of bytes) name → IsNamed (Some files) list name
+named files list bytes name same h = subst (λ b. IsNamedIn files (source_of b) name) (sym (ap (λ o. unwrap_or o []) same)) h
 
--- a file of a list's text is one that the list names
-pub list_rose : (told : Option Files) (list bytes : List ℕ) (reads reads' reads'' : List ℕ → ℕ)
-    → IfSome told (λ files. map.get files list ≡ Some bytes) → NeverFalls reads reads' → NamedRose (source_of bytes) reads' reads''
+text_rose : (told : Option Files) (list bytes : List ℕ) (reads reads' reads'' : List ℕ → ℕ)
+    → IfSome told (λ files. map.get files list ≡ Some bytes) → NeverFalls reads reads' → NamedRose told (source_of bytes) reads' reads''
     → ListRose told list reads reads''
-list_rose None list bytes reads reads' reads'' same never h =
+text_rose None list bytes reads reads' reads'' same never h =
     inr (h.0, tt, rose_behind (reads h.0) (reads' h.0) (reads'' h.0) (never h.0) h.2)
-list_rose (Some files) list bytes reads reads' reads'' same never h =
+text_rose (Some files) list bytes reads reads' reads'' same never h =
     inr (h.0, named files list bytes h.0 same h.1, rose_behind (reads h.0) (reads' h.0) (reads'' h.0) (never h.0) h.2)
+
+-- a file that a list's text comes to is one that the list comes to; the files stay while its text is read
+pub list_rose : (told told' : Option Files) (list bytes : List ℕ) (reads reads' reads'' : List ℕ → ℕ) → told' ≡ told
+    → IfSome told (λ files. map.get files list ≡ Some bytes) → NeverFalls reads reads' → NamedRose told' (source_of bytes) reads' reads''
+    → ListRose told list reads reads''
+list_rose told told' list bytes reads reads' reads'' kept same never h =
+    text_rose told list bytes reads reads' reads'' same never (subst (λ t. NamedRose t (source_of bytes) reads' reads'') kept h)
 
 passes : (a b : ℕ) → a < b → nat_lt a b ≡ true
 passes a b h = grind arith

@@ -11,7 +11,7 @@ use Rattle.component_list.specs.declared.refusal.ListPart.{ListPart}
 use Rattle.component_list.specs.declared.refusal.ListRefusal.{ListRefusal}
 use Rattle.component_list.specs.SourceViews.{Source}
 use Rattle.component_list.specs.Sources.{source_of}
-use Rattle.component_list.specs.Expansion.{file_of}
+use Rattle.component_list.specs.Expansion.{file_of, BeforeExpands}
 use Rattle.igvm_outside.specs.Files.{Files, State, IsUnwritten, with_file, content}
 use Rattle.igvm_outside.specs.Outputs.{gained}
 use Rattle.igvm_tool.specs.declared.status.Status.{Status}
@@ -140,21 +140,22 @@ pub record FilesAreKept (told told' : Option Files) (job : Option Job) (status :
   pub files : ChangesWritten told told' job status
   pub unwritten : IsUnwritten state → IsUnwritten state'
 
--- a directive of a list names a file
-abbrev pub IsNamedIn : Result Source ListRefusal → List ℕ → Type 0
-IsNamedIn (Err refusal) name = ⊥
-IsNamedIn (Ok source) name = (item : ℕ) × (option_and_then file_of (slice_get source.directives item) ≡ Some name)
+-- a directive of a list names a file, and those before it expand
+abbrev pub IsNamedIn : Files → Result Source ListRefusal → List ℕ → Type 0
+IsNamedIn files (Err refusal) name = ⊥
+IsNamedIn files (Ok source) name =
+    (item : ℕ) × (option_and_then file_of (slice_get source.directives item) ≡ Some name) × BeforeExpands source files item
 
--- a file that a list names; any, where the files are not told
+-- a file that a list comes to; any, where the files are not told
 abbrev pub IsNamed : Option Files → List ℕ → List ℕ → Type 0
-IsNamed None list name = Unit {0}
-IsNamed (Some files) list name = IsNamedIn (source_of (content files list)) name
+IsNamed told list name = IfSome told (λ files. IsNamedIn files (source_of (content files list)) name)
 
--- the count of a file rose that a list names
-abbrev pub NamedRose : Result Source ListRefusal → (List ℕ → ℕ) → (List ℕ → ℕ) → Type 0
-NamedRose source reads reads' = (name : List ℕ) × IsNamedIn source name × Rose (reads name) (reads' name)
+-- the count of a file rose that these entries come to; of any, where the files are not told
+abbrev pub NamedRose : Option Files → Result Source ListRefusal → (List ℕ → ℕ) → (List ℕ → ℕ) → Type 0
+NamedRose told source reads reads' =
+    (name : List ℕ) × IfSome told (λ files. IsNamedIn files source name) × Rose (reads name) (reads' name)
 
--- the count of a list's name rose, or that of a file that it names
+-- the count of a list's name rose, or that of a file that it comes to
 abbrev pub ListRose : Option Files → List ℕ → (List ℕ → ℕ) → (List ℕ → ℕ) → Type 0
 ListRose told list reads reads' =
     Rose (reads list) (reads' list) ⊎ ((name : List ℕ) × IsNamed told list name × Rose (reads name) (reads' name))

@@ -143,7 +143,8 @@ fn text_image<S: Shelf>(alloc: Global, bytes: &[u8], shelf: &mut S) -> Result<Ve
         → Gives refusal (text_outcome files target bytes.now))) }
     ensures text { IfErr result HasText }
     ensures cause { (list target : List ℕ) → IfErr result (λ refusal. HasCauseIn (Some (Build list target)) refusal
-        (NamedRose (source_of bytes.now) (S.read_faults shelf.old) (S.read_faults shelf.new)) ⊥ (S.given shelf.new)) }
+        (NamedRose (S.told shelf.old) (source_of bytes.now) (S.read_faults shelf.old) (S.read_faults shelf.new))
+        ⊥ (S.given shelf.new)) }
     ensures kept { S.told shelf.new ≡ S.told shelf.old }
     ensures reads { NeverFalls (S.read_faults shelf.old) (S.read_faults shelf.new) }
     ensures writes { NeverFalls (S.write_faults shelf.old) (S.write_faults shelf.new) }
@@ -190,7 +191,8 @@ fn list_parts<S: Shelf>(
         → Gives refusal (text_outcome files target bytes.now))) }
     ensures text { IfErr result HasText }
     ensures cause { (list target : List ℕ) → IfErr result (λ refusal. HasCauseIn (Some (Build list target)) refusal
-        (NamedRose (source_of bytes.now) (S.read_faults shelf.old) (S.read_faults shelf.new)) ⊥ (S.given shelf.new)) }
+        (NamedRose (S.told shelf.old) (source_of bytes.now) (S.read_faults shelf.old) (S.read_faults shelf.new))
+        ⊥ (S.given shelf.new)) }
     ensures kept { S.told shelf.new ≡ S.told shelf.old }
     ensures reads { NeverFalls (S.read_faults shelf.old) (S.read_faults shelf.new) }
     ensures writes { NeverFalls (S.write_faults shelf.old) (S.write_faults shelf.new) }
@@ -214,7 +216,8 @@ fn expanded<S: Shelf>(
         → Gives refusal (expanded_outcome target (expand_of source.now files)))) }
     ensures text { IfErr result HasText }
     ensures cause { (list target : List ℕ) → IfErr result (λ refusal. HasCauseIn (Some (Build list target)) refusal
-        (NamedRose (Ok source.now) (S.read_faults shelf.old) (S.read_faults shelf.new)) ⊥ (S.given shelf.new)) }
+        (NamedRose (S.told shelf.old) (Ok source.now) (S.read_faults shelf.old) (S.read_faults shelf.new))
+        ⊥ (S.given shelf.new)) }
     ensures kept { S.told shelf.new ≡ S.told shelf.old }
     ensures reads { NeverFalls (S.read_faults shelf.old) (S.read_faults shelf.new) }
     ensures writes { NeverFalls (S.write_faults shelf.old) (S.write_faults shelf.new) }
