@@ -1,3 +1,4 @@
+pub mod Blobs
 pub mod Components
 pub mod Ranges
 pub mod Lists

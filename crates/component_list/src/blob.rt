@@ -1,16 +1,34 @@
-//! Bytes that a component holds.
+//! Bytes that a component holds, of its own or in a file that it shares.
 ghost use Rattle.std.specs.Prelude.{◌≡◌, ◌==◌};
 ghost use Rattle.std.proofs.Common.{rules};
 ghost use Rattle.std.specs.Cmp.Rules.{comparing};
 ghost use Rattle.std.specs.Cmp.Lexicographic.{pointwise};
+ghost use Rattle.std.specs.Rc.{rc_slice_items};
+ghost use Rattle.igvm_headers.specs.Numbers.{slice};
+ghost use Rattle.component_list.specs.Blobs.{bytes_of};
 ghost use Rattle.component_list.specs.Ranges.{AreBytes};
 
+use crate::slices::{behind, front};
 use std::marker::Model;
+use std::rc::RcSlice;
 
-/// Bytes that a component holds, as a header's tail or its data.
+/// Bytes that a component holds, as a header's tail or its data: contracts see their list.
 #[derive(Drop)]
 pub struct Blob {
-    bytes: Vec<u8>,
+    bytes: Bytes,
+}
+
+/// Where the bytes lie.
+#[derive(Drop)]
+enum Bytes {
+    /// All of a vector.
+    Own(Vec<u8>),
+    /// So many bytes of a file from a place on, or those up to its end.
+    Piece {
+        file: RcSlice<u8>,
+        at: usize,
+        size: usize,
+    },
 }
 
 impl Model for Blob {
@@ -18,7 +36,9 @@ impl Model for Blob {
 
     ghost Value = { List ℕ };
 
-    ghost view = { λ b. b.bytes.items };
+    ghost use Rattle.component_list.specs.Blobs.{bytes_of};
+
+    ghost view = { λ b. bytes_of b.bytes };
 }
 
 impl Blob {
@@ -26,7 +46,18 @@ impl Blob {
     pub fn of_vec(bytes: Vec<u8>) -> Blob
         ensures { result ≡ bytes.items }
     {
-        Blob { bytes }
+        Blob {
+            bytes: Bytes::Own(bytes),
+        }
+    }
+
+    /// So many bytes of a file from a place on, which stay where they lie.
+    pub(crate) fn of_piece(file: RcSlice<u8>, at: usize, size: usize) -> Blob
+        ensures { result ≡ slice (rc_slice_items file) at size }
+    {
+        Blob {
+            bytes: Bytes::Piece { file, at, size },
+        }
     }
 
     /// The bytes, lent.
@@ -34,8 +65,19 @@ impl Blob {
         ensures value { result.now ≡ self.now }
         ensures bytes { AreBytes result.now }
     {
-        note_bytes(self.bytes.as_slice());
-        self.bytes.as_slice()
+        let bytes = lent(&self.bytes);
+        note_bytes(bytes);
+        bytes
+    }
+}
+
+/// The bytes, wherever they lie.
+fn lent(bytes: &Bytes) -> &[u8]
+    ensures { result.now ≡ bytes_of bytes.now }
+{
+    match bytes {
+        Bytes::Own(bytes) => bytes.as_slice(),
+        Bytes::Piece { file, at, size } => front(behind(file.as_slice(), *at), *size),
     }
 }
 

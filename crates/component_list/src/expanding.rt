@@ -55,22 +55,12 @@ pub fn expand<S: Shelf>(
             Ok(file) => file,
             Err(refusal) => return Err(refusal),
         };
-        match progress.add(alloc, item, directive, lent(&file)) {
+        match progress.add(alloc, item, directive, file) {
             Ok(()) => {}
             Err(refusal) => return Err(refusal),
         }
     }
     progress.finish(source)
-}
-
-/// The bytes of a file, lent, where there is one.
-fn lent(file: &Option<Vec<u8>>) -> Option<&[u8]>
-    ensures { option_map (λ b. b.now) result ≡ option_map (λ v. v.items) file.now }
-{
-    match file {
-        None => None,
-        Some(bytes) => Some(bytes.as_slice()),
-    }
 }
 
 /// The file of a directive, where it names one.

@@ -55,7 +55,6 @@ pub directives-preserved : goal.directives-preserved
 directives-preserved g c =
     let d = c.index-directives-item.result in
     let same = c.directives-directives.ensures.value in
-    let fine = ap (λ f. added c.directives.item d f c.directives.progress) (sym c.lent.ensures) ∙ c.in-Ok-add.ensures.added in
     stepping g.S.Shelf.told g.S.Shelf.state g.S.Shelf.given g.S.Shelf.read_faults g.S.Shelf.write_faults
     c.args.shelf.now c.directives.shelf c.read_file.new.shelf c.args.source.now c.directives.item c.directives.progress c.add.new.self d _
     c.directives.invariant
@@ -65,4 +64,4 @@ directives-preserved g c =
     c.read_file.ensures.kept c.read_file.ensures.reads c.read_file.ensures.writes c.read_file.ensures.unwritten
     c.in-Ok-read_file.ensures.short c.in-Ok-read_file.ensures.same
     (λ files is. told_at _ _ c.in-Ok-read_file.ensures.file files is)
-    fine
+    c.in-Ok-add.ensures.added

@@ -2,7 +2,7 @@ use Rattle.std.proofs.Common.{◌≡◌, ◌∙◌, ap, refl, arith, ℕ}
 use Rattle.component_list.specs.declared.component.Content.TheVariants.{Zero}
 use Rattle.component_list.specs.Expansion.{all_zero, page_at}
 use Rattle.component_list.proofs.PageParts.{parts_more}
-use Rattle.component_list.proofs.runs.push_zeros.Goals as goal
+use Rattle.component_list.proofs.pages.push_zeros.Goals as goal
 
 pub pages-preserved : goal.pages-preserved
 pages-preserved c =
