@@ -1,4 +1,4 @@
-use Rattle.std.proofs.Common.{◌≡◌, ◌∙◌, ap, refl, arith}
+use Rattle.std.proofs.Common.{◌≡◌, ◌∙◌, ap, arith}
 use Rattle.std.specs.Rc.{rc_slice_items}
 use Rattle.component_list.specs.Expansion.{piece_of, page_size, page_at}
 use Rattle.component_list.proofs.PageParts.{parts_more}

@@ -1,4 +1,4 @@
-use Rattle.std.proofs.Common.{◌≡◌, ◌∙◌, ap, refl, arith, ℕ}
+use Rattle.std.proofs.Common.{◌≡◌, ◌∙◌, ap, arith, ℕ}
 use Rattle.component_list.specs.declared.component.Content.TheVariants.{Zero}
 use Rattle.component_list.specs.Expansion.{all_zero, page_at}
 use Rattle.component_list.proofs.PageParts.{parts_more}

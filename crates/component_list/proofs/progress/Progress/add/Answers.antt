@@ -1,4 +1,4 @@
-use Rattle.std.proofs.Common.{◌≡◌, ◌≤◌, ◌+◌, ◌∙◌, ap, length, arith, length-append}
+use Rattle.std.proofs.Common.{◌∙◌, ap, length, arith, length-append}
 use Rattle.component_list.specs.Expansion.{Progress, pages_named}
 use Rattle.component_list.proofs.progress.Progress.add.Goals as goal
 
