@@ -3,6 +3,7 @@ use Rattle.std.proofs.Common.{◌≡◌, ℕ, suc, ◌+◌, ◌<◌, ◌≤◌, 
 use Rattle.std.proofs.lemmas.List.{drop_all}
 use Rattle.serde_json.specs.Data.{Data}
 use Rattle.serde_json.specs.Events.{items_len}
+use Rattle.serde_json.proofs.Views.{items_len-items_view}
 use Rattle.serde_json.specs.View.{view, items_view}
 use Rattle.serde_json.specs.declared.value.Value.{Value}
 use Rattle.component_list.specs.declared.refusal.ListPart.{ListPart}
@@ -11,9 +12,9 @@ use Rattle.component_list.specs.declared.refusal.ListRefusal.TheVariants.{Field}
 use Rattle.component_list.specs.Sources.{before, entries_from, entries_of}
 use Rattle.component_list.specs.Walks.{with_front}
 
+-- the kit's lemma, under a name that an attribute can have
 pub items_len_is : (vs : List Value) → items_len (items_view vs) ≡ length vs
-items_len_is [] = refl
-items_len_is (v ∷ vs) = ap suc (items_len_is vs)
+items_len_is vs = items_len-items_view vs
 
 -- these entries, and those that are read of the values from a place on, are those of all values
 pub record EntryWalk {A : Type 0} (form : Data → Option A) (part : ListPart) (all : List Value) (number : ℕ) (made : List A) : Type 0 where

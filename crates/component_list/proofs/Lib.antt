@@ -2,9 +2,7 @@ pub mod Judged
 pub mod SameRules
 pub mod ReadHeaders
 pub mod ImageLists
-pub mod FormLemmas
 pub mod EntryWalks
-pub mod JsonTexts
 pub mod PageParts
 pub mod Added
 pub mod Reached

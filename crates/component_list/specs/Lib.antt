@@ -3,7 +3,7 @@ pub mod Components
 pub mod Ranges
 pub mod Lists
 pub mod Images
-pub mod Forms
+pub mod TextForms
 pub mod SourceViews
 pub mod Sources
 pub mod Walks
@@ -14,3 +14,5 @@ pub use Rattle.igvm_headers.specs.Causes
 pub use Rattle.igvm_image.specs.Rules
 pub use Rattle.igvm_image.specs.Areas
 pub use Rattle.platform_masks.specs.Platforms
+pub use Rattle.json_forms.specs.Forms
+pub use Rattle.json_forms.specs.Texts

@@ -1,6 +1,5 @@
 -- What a component list's JSON says, or its first refusal: docs/LIST.md has the forms in words.
 use Rattle.std.specs.Prelude.{ℕ, suc, ◌&&◌, ◌==◌, bytes_eq, nat_le, Bool, true, false, if◌then◌else◌, codes, List, [], ◌∷◌, find, replicate, is_some, ok_or, option_map, Option, Some, None, option_and_then, Result, Ok, Err}
-use Rattle.std.specs.Str.{is_utf8}
 use Rattle.igvm_headers.specs.Names.{kind_text, page_kind_text, param_text}
 use Rattle.igvm_headers.specs.declared.header.Header.{Header}
 use Rattle.igvm_headers.specs.declared.header.Header.TheVariants as header
@@ -13,7 +12,8 @@ use Rattle.igvm_headers.specs.declared.platform_kind.PlatformKind.TheVariants.{N
 use Rattle.serde_json.specs.Data.{Data, Items, no_items, item}
 use Rattle.serde_json.specs.Events.{items_len}
 use Rattle.serde_json.specs.Find.{get, as_array, as_bool, as_str}
-use Rattle.serde_json.specs.Read.{read}
+use Rattle.json_forms.specs.Forms.{address, byte, short, word, has_only, required, optional}
+use Rattle.json_forms.specs.Texts.{json_of}
 use Rattle.component_list.specs.declared.refusal.ListPart.{ListPart}
 use Rattle.component_list.specs.declared.refusal.ListPart.TheVariants as part
 use Rattle.component_list.specs.declared.refusal.ListRefusal.{ListRefusal}
@@ -21,8 +21,8 @@ use Rattle.component_list.specs.declared.refusal.ListRefusal.TheVariants as refu
 use Rattle.component_list.specs.declared.source.Directive.{Directive}
 use Rattle.component_list.specs.declared.source.Directive.TheVariants as directive
 use Rattle.component_list.specs.declared.source.PageRun.{PageRun}
-use Rattle.component_list.specs.Forms.{number_below, address, file_name, hex_bytes, has_only, required, optional}
 use Rattle.component_list.specs.SourceViews.{Source}
+use Rattle.component_list.specs.TextForms.{file_name, hex_bytes}
 
 -- one form, and then another that may lean on it
 infixl 10 ◌>>=◌
@@ -53,16 +53,6 @@ page_kind json = named page_kind_text page_kinds json
 
 abbrev pub param_kind : Data → Option ParamKind
 param_kind json = named param_text param_kinds json
-
--- numbers of 8, 16 and 32 bits
-abbrev pub byte : Data → Option ℕ
-byte json = number_below 256 json
-
-abbrev pub short : Data → Option ℕ
-short json = number_below 65536 json
-
-abbrev pub word : Data → Option ℕ
-word json = number_below 4294967296 json
 
 -- ---- entries
 
@@ -316,10 +306,6 @@ source_in (Some arrays) = and_platforms arrays (entries_of platform_entry part.P
 
 unfoldable pub source_from : Data → Result Source ListRefusal
 source_from json = source_in (arrays_of json)
-
--- the value of a JSON text
-abbrev pub json_of : List ℕ → Option Data
-json_of bytes = if is_utf8 bytes then read bytes else None
 
 abbrev pub source_by : Option Data → Result Source ListRefusal
 source_by None = Err refusal.NotJson

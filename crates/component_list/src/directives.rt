@@ -1,16 +1,17 @@
 //! Entries of `directives`, by the word at `do`.
-ghost use Rattle.std.specs.Prelude.{◌≡◌, codes, length, option_map, IfOk, None};
+ghost use Rattle.std.specs.Prelude.{◌≡◌, codes, IfOk, None};
 ghost use Rattle.serde_json.specs.View.{view};
-ghost use Rattle.component_list.specs.Forms.{file_name, required, optional};
-ghost use Rattle.component_list.specs.Sources.{directive_by, directive_entry, entry_form, plain, plain_form, page_count, page_run, some_file, pages_keys, pages_entry, zero_keys, zero_entry, area_keys, area_entry, context_keys, context_entry, param_keys, param_fields, insert_keys, insert_fields, required_keys, required_fields, error_range_keys, error_range_fields, id_block_keys, id_block_entry};
+ghost use Rattle.json_forms.specs.Forms.{required, optional};
+ghost use Rattle.component_list.specs.TextForms.{file_name};
+ghost use Rattle.component_list.specs.Sources.{directive_by, directive_entry, entry_form, plain, plain_form, page_count, page_run, some_file, pages_keys, pages_entry, zero_keys, zero_entry, area_keys, area_entry, context_keys, context_entry, param_keys, param_fields, insert_keys, insert_fields, required_keys, required_fields, error_range_keys, error_range_fields};
 
 use crate::blob::Blob;
 use crate::fields::{address, page_kind, short, truth, word};
-use crate::forms::{self, has_only};
 use crate::id_block;
 use crate::plain_entries::{error_range_fields, insert_fields, param_fields, required_fields};
 use crate::source::{Directive, FileName, PageRun};
 use igvm_headers::{Header, Memory};
+use json_forms::has_only;
 use serde_json::Value;
 use std::alloc::Global;
 
@@ -100,7 +101,7 @@ fn zeros(json: &Value) -> Option<Directive>
 fn count_at(json: &Value) -> Option<u32>
     ensures { result ≡ required page_count (codes "count") (view json.now) }
 {
-    let count = forms::word(json.get("count")?)?;
+    let count = json_forms::word(json.get("count")?)?;
     if count >= 1 && count <= 524_288 {
         Some(count)
     } else {

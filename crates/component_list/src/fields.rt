@@ -1,22 +1,20 @@
 //! The values at the keys of an entry.
-ghost use Rattle.std.specs.Prelude.{◌≡◌, ◌≢◌, ◌≤◌, length, option_map, IfOk, Option, List, ℕ, false, replicate};
+ghost use Rattle.std.specs.Prelude.{◌≡◌, false};
 ghost use Rattle.serde_json.specs.View.{view};
 ghost use Rattle.serde_json.specs.Find.{as_bool};
 ghost use Rattle.igvm_headers.specs.declared.page_kind.PageKind.TheVariants.{Normal};
-ghost use Rattle.component_list.specs.Forms.{address, file_name, hex_bytes, required, optional};
-ghost use Rattle.component_list.specs.Sources.{byte, short, word, page_kind, some_file};
+ghost use Rattle.json_forms.specs.Forms.{address, byte, short, word, required, optional};
+ghost use Rattle.component_list.specs.Sources.{page_kind};
 
-use crate::source::FileName;
-use crate::{forms, kinds};
-use igvm_headers::{Memory, PageKind};
+use crate::kinds;
+use igvm_headers::PageKind;
 use serde_json::Value;
-use std::alloc::Global;
 
 /// A number of 32 bits that must be there.
 pub(crate) fn word(json: &Value, key: &str) -> Option<u32>
     ensures { result ≡ required word key.now (view json.now) }
 {
-    forms::word(json.get(key)?)
+    json_forms::word(json.get(key)?)
 }
 
 /// A number of 32 bits, 0 where it is missing.
@@ -25,7 +23,7 @@ pub(crate) fn word_or_0(json: &Value, key: &str) -> Option<u32>
 {
     match json.get(key) {
         None => Some(0),
-        Some(found) => forms::word(found),
+        Some(found) => json_forms::word(found),
     }
 }
 
@@ -33,7 +31,7 @@ pub(crate) fn word_or_0(json: &Value, key: &str) -> Option<u32>
 pub(crate) fn short(json: &Value, key: &str) -> Option<u16>
     ensures { result ≡ required short key.now (view json.now) }
 {
-    forms::short(json.get(key)?)
+    json_forms::short(json.get(key)?)
 }
 
 /// A number of 16 bits, 1 where it is missing.
@@ -42,7 +40,7 @@ pub(crate) fn short_or_1(json: &Value, key: &str) -> Option<u16>
 {
     match json.get(key) {
         None => Some(1),
-        Some(found) => forms::short(found),
+        Some(found) => json_forms::short(found),
     }
 }
 
@@ -52,7 +50,7 @@ pub(crate) fn byte_or_0(json: &Value, key: &str) -> Option<u8>
 {
     match json.get(key) {
         None => Some(0),
-        Some(found) => forms::byte(found),
+        Some(found) => json_forms::byte(found),
     }
 }
 
@@ -60,7 +58,7 @@ pub(crate) fn byte_or_0(json: &Value, key: &str) -> Option<u8>
 pub(crate) fn address(json: &Value, key: &str) -> Option<u64>
     ensures { result ≡ required address key.now (view json.now) }
 {
-    forms::address(json.get(key)?)
+    json_forms::address(json.get(key)?)
 }
 
 /// An address, 0 where it is missing.
@@ -69,7 +67,7 @@ pub(crate) fn address_or_0(json: &Value, key: &str) -> Option<u64>
 {
     match json.get(key) {
         None => Some(0),
-        Some(found) => forms::address(found),
+        Some(found) => json_forms::address(found),
     }
 }
 

@@ -1,15 +1,16 @@
 //! The entry `id_block`: an SEV-SNP ID block.
-ghost use Rattle.std.specs.Prelude.{◌≡◌, codes, length, replicate, option_map, IfOk};
+ghost use Rattle.std.specs.Prelude.{◌≡◌, codes, IfOk};
 ghost use Rattle.serde_json.specs.View.{view};
-ghost use Rattle.component_list.specs.Forms.{decoded, hex_bytes, required, optional};
+ghost use Rattle.json_forms.specs.Forms.{required, optional};
 ghost use Rattle.hex.specs.Hex.{decode_sized};
+ghost use Rattle.component_list.specs.TextForms.{decoded, hex_bytes};
 ghost use Rattle.component_list.specs.Sources.{entry_form, id_block_keys, id_block_fields, id_block_entry, zeros};
 
 use crate::blob::Blob;
 use crate::fields::{byte_or_0, word, word_or_0};
-use crate::forms::has_only;
 use crate::source::Directive;
 use igvm_headers::{Digest, Header, Memory};
+use json_forms::has_only;
 use serde_json::Value;
 use std::alloc::Global;
 

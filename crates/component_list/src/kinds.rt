@@ -1,8 +1,8 @@
 //! Kinds by their names.
-ghost use Rattle.std.specs.Prelude.{◌≡◌, bytes_eq, find, ◌≤◌, length};
+ghost use Rattle.std.specs.Prelude.{◌≡◌, bytes_eq, find};
 ghost use Rattle.igvm_headers.specs.Names.{kind_text, page_kind_text, param_text};
 ghost use Rattle.serde_json.specs.View.{view};
-ghost use Rattle.component_list.specs.Sources.{platform_kind, page_kind, param_kind, platform_kinds, page_kinds, param_kinds};
+ghost use Rattle.component_list.specs.Sources.{platform_kind, page_kind, param_kind};
 
 use igvm_headers::{PageKind, ParamKind, PlatformKind, kind_name, page_kind_name, param_name};
 use serde_json::Value;

@@ -7,7 +7,6 @@ mod component;
 mod directives;
 mod expanding;
 mod fields;
-mod forms;
 mod id_block;
 mod image_list;
 mod judging;

@@ -1,13 +1,13 @@
 //! Entries that are one header without data.
-ghost use Rattle.std.specs.Prelude.{◌≡◌, ◌≤◌, codes, length};
+ghost use Rattle.std.specs.Prelude.{◌≡◌, codes};
 ghost use Rattle.serde_json.specs.View.{view};
-ghost use Rattle.component_list.specs.Forms.{required};
-ghost use Rattle.component_list.specs.Sources.{platform_entry, platform_fields, policy_entry, policy_fields, param_fields, insert_fields, required_fields, error_range_fields, platform_kind, param_kind};
+ghost use Rattle.json_forms.specs.Forms.{required};
+ghost use Rattle.component_list.specs.Sources.{platform_entry, policy_entry, param_fields, insert_fields, required_fields, error_range_fields, platform_kind, param_kind};
 
 use crate::fields::{address, address_or_0, byte_or_0, short_or_1, word, word_or_0};
-use crate::forms::has_only;
 use crate::kinds;
 use igvm_headers::{Header, ParamKind, PlatformKind};
+use json_forms::has_only;
 use serde_json::Value;
 
 /// An entry of `platforms`.

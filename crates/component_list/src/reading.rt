@@ -1,17 +1,17 @@
 //! Component lists: JSON (RFC 8259) of the form that docs/LIST.md gives.
-ghost use Rattle.std.specs.Prelude.{◌≡◌, ◌≢◌, ◌≤◌, length, codes, option_map, None, Some, Ok, Err, IfOk, IfErr, IfSome};
+ghost use Rattle.std.specs.Prelude.{◌≡◌, ◌≢◌, ◌≤◌, length, option_map, None, Some, Ok, Err, IfOk, IfErr, IfSome};
 ghost use Rattle.serde_json.specs.Data.{no_items};
 ghost use Rattle.serde_json.specs.View.{view, items_view};
-ghost use Rattle.component_list.specs.Forms.{required, optional};
-ghost use Rattle.component_list.specs.Sources.{arrays_of, directive_entry, entries, entries_of, json_of, platform_entry, policy_entry, source_from, source_of};
+ghost use Rattle.json_forms.specs.Forms.{required, optional};
+ghost use Rattle.component_list.specs.Sources.{arrays_of, directive_entry, entries, entries_of, platform_entry, policy_entry, source_from, source_of};
 ghost use Rattle.component_list.specs.Walks.{arrays_view};
 
 use crate::directives::directive_entry;
-use crate::forms::has_only;
 use crate::plain_entries::{platform_entry, policy_entry};
 use crate::refusal::{ListPart, ListRefusal};
 use crate::source::{Directive, ListSource};
 use igvm_headers::Header;
+use json_forms::{JsonRefusal, has_only, json_of};
 use serde_json::Value;
 use std::alloc::Global;
 
@@ -33,23 +33,10 @@ pub fn read_list(alloc: Global, bytes: &[u8]) -> Result<ListSource, ListRefusal>
     ensures source { IfOk result (λ source. source_of bytes.now ≡ Ok source) }
     ensures refused { IfErr result (λ e. e ≢ ListRefusal.Memory → source_of bytes.now ≡ Err e) }
 {
-    source_from(alloc, &json_of(alloc, bytes)?)
-}
-
-/// The value of a JSON text.
-fn json_of(alloc: Global, bytes: &[u8]) -> Result<Value, ListRefusal>
-    ensures read { IfOk result (λ json. json_of bytes.now ≡ Some (view json)) }
-    ensures refused { IfErr result (λ e. e ≢ ListRefusal.Memory
-        → (e ≡ ListRefusal.NotJson) × (json_of bytes.now ≡ None)) }
-{
-    match Value::from_slice(alloc, bytes) {
-        Ok(json) => Ok(json),
-        Err(e) => {
-            if e.is_memory() {
-                return Err(ListRefusal::Memory);
-            }
-            Err(ListRefusal::NotJson)
-        }
+    match json_of(alloc, bytes) {
+        Ok(json) => source_from(alloc, &json),
+        Err(JsonRefusal::NotJson) => Err(ListRefusal::NotJson),
+        Err(JsonRefusal::Memory) => Err(ListRefusal::Memory),
     }
 }
 
