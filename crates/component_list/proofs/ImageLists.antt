@@ -1,31 +1,27 @@
 -- The list of an accepted file breaks no rule.
-use Rattle.std.proofs.Common.{◌≡◌, ℕ, zero, suc, ◌+◌, ◌-◌, ◌*◌, ◌/◌, ◌%◌, ◌^◌, ◌<◌, ◌≤◌, List, [], ◌∷◌, ◌++◌, length, map, take, drop, replicate, length-append, append-nil, append_assoc, add-one, add-zero, zero-add, refl, sym, ◌∙◌, ap, ap₂, subst, arith, Option, Some, None, Result, Ok, Err, Bool, true, false}
+use Rattle.std.proofs.Common.{◌≡◌, ℕ, zero, suc, ◌+◌, ◌-◌, ◌*◌, ◌/◌, ◌%◌, ◌^◌, ◌<◌, ◌≤◌, List, [], ◌∷◌, ◌++◌, length, map, take, drop, replicate, length-append, append-nil, append_assoc, add-one, add-zero, zero-add, refl, sym, ◌∙◌, ap, ap₂, subst, arith, Option, Some, None, Bool, true, false}
 use Rattle.std.specs.Prelude.{if◌then◌else◌, ◌==◌, ◌&&◌, ◌||◌, not, nat_lt}
-use Rattle.std.proofs.lemmas.List.{map-append, length-map, length-take, length-take-le, length-drop, length-replicate, drop-drop}
+use Rattle.std.proofs.lemmas.List.{take_at, map-append, length-map, length-take, length-take-le, length-drop, length-replicate, drop-drop}
 use Rattle.std.proofs.Math.Seq.{take-add}
 use Rattle.igvm_headers.specs.Numbers.{slice}
 use Rattle.std.proofs.lemmas.List.FromFn.{length-range_with_len}
-use Rattle.igvm_headers.proofs.Pages.{length_padded_page}
 use Rattle.std.proofs.lemmas.Bool.{eq-eqb}
-use Rattle.std.specs.List.{flat_map, range_with_len, AllByRecursion}
+use Rattle.std.proofs.Math.Dec.{eqb-suc-zero}
+use Rattle.std.specs.List.{slice_get, flat_map, range_with_len, AllByRecursion}
 use Rattle.std.proofs.lemmas.Grind.{flat_map-append}
-use Rattle.igvm_headers.specs.Records.{header_form}
 use Rattle.igvm_headers.specs.Fixed.{fixed_fields}
 use Rattle.igvm_headers.specs.Pages.{file_body, body_page, padded_page}
 use Rattle.igvm_headers.specs.declared.header.Header.{Header}
-use Rattle.igvm_headers.specs.declared.header.Header.TheVariants.{Platform, Area, Page, Context}
+use Rattle.igvm_headers.specs.declared.header.Header.TheVariants.{Area, Page, Context}
 use Rattle.igvm_headers.specs.declared.fault.ReadWhat.{ReadWhat}
-use Rattle.igvm_headers.specs.declared.fault.ReadFault.{ReadFault}
 use Rattle.igvm_headers.specs.declared.fault.ReadWhat.TheVariants.{NoPlatform}
-use Rattle.igvm_headers.specs.Fixed.{fault_at}
 use Rattle.platform_masks.specs.Platforms.{platforms_of}
-use Rattle.igvm_image.specs.Data.{Data, data_in, data_page, data_pages}
-use Rattle.igvm_image.specs.Pieces.{Piece, size_of, cut}
+use Rattle.igvm_image.specs.Data.{Data, data_in, data_page}
 use Rattle.igvm_image.specs.Rules.{Seen, seen_of, rule_fault, breaks_area_size}
-use Rattle.igvm_image.specs.Reading.{judged, headers_fault, unless_fault, end_fault, section_of}
-use Rattle.igvm_image.specs.Headers.{PlacedHeader, IsAccepted, placed_from, placed_before, placed_header, placed_headers, pieces_of}
-use Rattle.igvm_image.proofs.Walking.{judged_ok}
-use Rattle.igvm_image.proofs.CutLaws.{accepted_is}
+use Rattle.igvm_image.specs.Headers.{PlacedHeader, IsAccepted, placed_headers, headers_of}
+use Rattle.igvm_image.specs.Laws.{IsAcceptedHeader}
+use Rattle.igvm_image.specs.RulesLaws.{keeps_rules}
+use Rattle.igvm_image.specs.AcceptedLaws.{header_kept, has_platform}
 use Rattle.component_list.specs.declared.component.Component.{Component}
 use Rattle.component_list.specs.declared.component.Content.TheVariants.{Zero, Bytes}
 use Rattle.component_list.specs.Components.{with_offset, is_unknown, breaks_length, breaks_data_type, fits_content, fills, tail_size}
@@ -33,8 +29,8 @@ use Rattle.component_list.specs.Ranges.{IsComponent}
 use Rattle.component_list.specs.Lists.{component_fault, fault_behind, list_fault, unless_broken, IsValid}
 use Rattle.component_list.specs.Lists as lists
 use Rattle.component_list.specs.Images.{data_bytes, stored, content_of, tail_of, component_of, list_of}
-use Rattle.component_list.proofs.SameRules.{passed_over, seen_same, rules_at, inside_at_0, keeps_rules}
-use Rattle.component_list.proofs.ReadHeaders.{IsRead, read_is}
+use Rattle.component_list.proofs.SameRules.{seen_same, rules_at, inside_at_0}
+use Rattle.component_list.proofs.ReadHeaders.{read_is}
 
 unknown_same : (h : Header) → is_unknown (with_offset 0 h) ≡ is_unknown h
 unknown_same (Area bytes area offset) = refl
@@ -56,18 +52,18 @@ tail_same h = refl
 
 -- a page of data is a whole page
 pub data_page_size : (data' : Data) (k : ℕ) → length (data_page data' k) ≡ 4096
-unfolding body_page
+unfolding body_page padded_page
 data_page_size data' k = cases (data'.offset == 0)
   where
-    within : (xs : List ℕ) → length (take 4096 xs) ≤ 4096
-    within xs = simp length-take (omega arith)
+    filled : (xs : List ℕ) → length xs ≤ 4096 → length (xs ++ replicate (4096 - length xs) 0) ≡ 4096
+    filled xs few = simp (length-append, length-replicate) (omega arith)
 
     lent : List ℕ
     lent = take 4096 (drop (data'.offset + 4096 * k) data'.body)
 
     cases : (b : Bool) → length (if b then replicate 4096 0 else padded_page lent) ≡ 4096
     cases true = length-replicate {A = ℕ} 4096 0
-    cases false = length_padded_page lent (within _)
+    cases false = filled lent (simp length-take (omega arith))
 
 -- so many pages are so many bytes
 pages_size : (data' : Data) (ks : List ℕ) → length (flat_map (data_page data') ks) ≡ 4096 * length ks
@@ -102,63 +98,71 @@ content_fits body (Page gpa mask offset large unmeasured kind) kept = stored_fil
 content_fits body (Context gpa mask offset vp) kept = stored_fills offset _ 4096 refl
 content_fits body h kept = refl
 
--- the component of a header that breaks no rule breaks none
-component_kept : (body : List ℕ) (index at total : ℕ) (p : Piece) (h : Header) (seen : Seen)
-    → header_form p.kind p.content ≡ Ok h → rule_fault total seen h ≡ None
-    → component_fault seen (component_of (placed_header body index at p h)) ≡ None
+-- one rule in front of others
+passed_over : (b : Bool) (what : ReadWhat) (others : Option ReadWhat) → b ≡ false → others ≡ None → (if b then Some what else others) ≡ None
+passed_over true what others kept none = cc
+passed_over false what others kept none = none
+
+-- the component of an accepted header breaks no rule
+component_kept : (total : ℕ) (body : List ℕ) (before : List Header) (placed : PlacedHeader) → IsAcceptedHeader total body before placed
+    → component_fault (seen_of (map (with_offset 0) before)) (component_of placed) ≡ None
 unfolding component_fault
-component_kept body index at total p h seen form none =
-    let read = read_is p.kind p.content h form in
-    let rules = keeps_rules total seen h none in
+component_kept total body before placed is =
+    let h = placed.header in
+    let seen = seen_of (map (with_offset 0) before) in
+    let none : rule_fault total seen h ≡ None = ap (λ s. rule_fault total s h) (seen_same 0 before) ∙ is.rules in
+    let read = read_is is.kind placed.raw h is.form in
     let known = unknown_same h ∙ read.known in
-    let tail : (length (tail_of h p.content) == tail_size (with_offset 0 h)) ≡ true = eq-eqb _ _ (read.tail ∙ sym (tail_same h)) in
+    let tail : (length (tail_of h placed.raw) == tail_size (with_offset 0 h)) ≡ true = eq-eqb _ _ (read.tail ∙ sym (tail_same h)) in
+    let fits : fits_content (with_offset 0 h) (content_of h placed.content) ≡ true =
+    ap (λ data'. fits_content (with_offset 0 h) (content_of h data')) is.content ∙ content_fits body h (keeps_rules total seen h none).size in
+    let sized : breaks_length (component_of placed) ≡ false = ap₂ (λ a b. not (a && b)) tail fits in
     let normal = normal_same h ∙ read.normal in
-    let sized : breaks_length (component_of (placed_header body index at p h)) ≡ false =
-    ap₂ (λ a b. not (a && b)) tail (content_fits body h rules.size) in
     passed_over _ _ _ known (passed_over _ _ _ sized (passed_over _ _ _ normal (rules_at total 0 0 seen h none (inside_at_0 0 h))))
 
--- behind headers of the file, and the components of these
-behind_kept : (body : List ℕ) (index total start at : ℕ) (before : List Header) (ps : List Piece) (rest : List ℕ)
-    → headers_fault total start at before ps rest ≡ None
-    → fault_behind (map (with_offset 0) before) (map component_of (placed_from body index at ps)) ≡ None
-unfolding headers_fault placed_from fault_behind
-behind_kept body index total start at before [] [] kept =
+-- a platform stands behind the last
+end_kept : (before : List Header) → 0 < length (platforms_of before) → lists.end_fault (map (with_offset 0) before) ≡ None
+end_kept before some =
     ap (λ (seen : Seen). if length seen.platforms == 0 then Some (lists.fault_in (length (map (with_offset 0) before)) NoPlatform) else None) (seen_same 0 before)
-    ∙ none (length (platforms_of before) == 0) kept
+    ∙ none (length (platforms_of before)) some
   where
-    none : (b : Bool) → (if b then Some (fault_at start NoPlatform) else None) ≡ None
-        → (if b then Some (lists.fault_in (length (map (with_offset 0) before)) NoPlatform) else None) ≡ None
-    none true h = cc
-    none false h = refl
-behind_kept body index total start at before [] (byte ∷ rest) kept = cc
-behind_kept body index total start at before (p ∷ ps) rest kept =
-    cases (judged total (seen_of before) p) refl kept
-    (λ header. behind_kept body (suc index) total start (at + size_of p) (before ++ header ∷ []) ps rest)
-  where
-    Later : Header → Type 0
-    Later header = headers_fault total start (at + size_of p) (before ++ header ∷ []) ps rest ≡ None
-        → fault_behind (map (with_offset 0) (before ++ header ∷ [])) (map component_of (placed_from body (suc index) (at + size_of p) ps)) ≡ None
+    none : (n : ℕ) → 0 < n → (if n == 0 then Some (lists.fault_in (length (map (with_offset 0) before)) NoPlatform) else None) ≡ None
+    none zero some = absurd (omega arith)
+    none (suc n) some = ap (λ b. if b then Some (lists.fault_in (length (map (with_offset 0) before)) NoPlatform) else None) (eqb-suc-zero n)
 
-    cases : (j : Result Header ReadWhat) → judged total (seen_of before) p ≡ j
-        → unless_fault at j (λ header. headers_fault total start (at + size_of p) (before ++ header ∷ []) ps rest) ≡ None
-        → ((header : Header) → Later header)
-        → fault_behind (map (with_offset 0) before)
-        (map component_of (placed_before (placed_header body index at p) (header_form p.kind p.content) (placed_from body (suc index) (at + size_of p) ps))) ≡ None
-    cases (Err what) same h later = cc
-    cases (Ok header) same h later =
-        let accepted = judged_ok total (seen_of before) p header same in
-        let found = component_kept body index at total p header (seen_of (map (with_offset 0) before)) accepted.form
-        (ap (λ seen. rule_fault total seen header) (seen_same 0 before) ∙ accepted.rules) in
-        ap (λ form. fault_behind (map (with_offset 0) before) (map component_of (placed_before (placed_header body index at p) form (placed_from body (suc index) (at + size_of p) ps)))) accepted.form
-        ∙ ap (λ f. unless_broken (length (map (with_offset 0) before)) f
-        (fault_behind (map (with_offset 0) before ++ with_offset 0 header ∷ []) (map component_of (placed_from body (suc index) (at + size_of p) ps)))) found
-        ∙ ap (λ hs. fault_behind hs (map component_of (placed_from body (suc index) (at + size_of p) ps))) (sym (map-append (with_offset 0) before (header ∷ [])))
-        ∙ later header h
+-- an element between others
+slice_get-seam : {X : Type 0} (xs : List X) (y : X) (ys : List X) → slice_get (xs ++ y ∷ ys) (length xs) ≡ Some y
+slice_get-seam [] y ys = refl
+slice_get-seam (x ∷ xs) y ys = slice_get-seam xs y ys
+
+abbrev headers_in : List PlacedHeader → List Header
+headers_in placed = map (λ p. p.header) placed
+
+-- behind the first headers of an accepted file, the components of the others break no rule
+behind_kept : (file : List ℕ) (done left : List PlacedHeader) → IsAccepted file → done ++ left ≡ placed_headers file
+    → fault_behind (map (with_offset 0) (headers_in done)) (map component_of left) ≡ None
+unfolding fault_behind
+behind_kept file done [] accepted all =
+    let same : headers_of file ≡ headers_in done = ap headers_in (sym all ∙ append-nil done) in
+    end_kept (headers_in done) (subst (λ hs. 0 < length (platforms_of hs)) same (has_platform file accepted))
+behind_kept file done (p ∷ left) accepted all =
+    let total = (fixed_fields file).total in
+    let before = map (with_offset 0) (headers_in done) in
+    let others = map component_of left in
+    let here = header_kept file (length done) p accepted (ap (λ ps. slice_get ps (length done)) (sym all) ∙ slice_get-seam done p left) in
+    let first : take (length done) (headers_of file) ≡ headers_in done =
+    ap (λ ps. take (length done) (headers_in ps)) (sym all)
+    ∙ ap (take (length done)) (map-append (λ (q : PlacedHeader). q.header) done (p ∷ left))
+    ∙ take_at (headers_in done) (headers_in (p ∷ left)) (length done) (length-map done (λ (q : PlacedHeader). q.header)) in
+    let kept = component_kept total (file_body file) (headers_in done) p (subst (λ hs. IsAcceptedHeader total (file_body file) hs p) first here) in
+    let more : before ++ with_offset 0 p.header ∷ [] ≡ map (with_offset 0) (headers_in (done ++ p ∷ [])) =
+    sym (ap (map (with_offset 0)) (map-append (λ (q : PlacedHeader). q.header) done (p ∷ [])) ∙ map-append (with_offset 0) (headers_in done) (p.header ∷ [])) in
+    ap (λ f. unless_broken (length before) f (fault_behind (before ++ with_offset 0 p.header ∷ []) others)) kept
+    ∙ ap (λ hs. fault_behind hs others) more
+    ∙ behind_kept file (done ++ p ∷ []) left accepted (append_assoc done (p ∷ []) left ∙ all)
 
 pub image_list_kept : (file : List ℕ) → IsAccepted file → list_fault (list_of file) ≡ None
-image_list_kept file accepted =
-    behind_kept (file_body file) 0 (fixed_fields file).total (fixed_fields file).var_offset (fixed_fields file).var_offset []
-    (pieces_of file) (cut (section_of file (fixed_fields file))) (accepted_is file accepted).headers
+image_list_kept file accepted = behind_kept file [] (placed_headers file) accepted refl
 
 -- one page more of data
 range_more : (a n : ℕ) → range_with_len a (suc n) ≡ range_with_len a n ++ (a + n) ∷ []

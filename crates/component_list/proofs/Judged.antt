@@ -1,25 +1,19 @@
 -- What is kept while the components of a list are judged in order.
-use Rattle.std.proofs.Common.{◌≡◌, ℕ, ◌+◌, ◌-◌, ◌<◌, ◌≤◌, ◌^◌, List, [], ◌∷◌, ◌++◌, length, map, take, drop, refl, sym, ◌∙◌, ap, subst, arith, append-nil, length-append, Option, Some, None, Bool, true, false}
+use Rattle.std.proofs.Common.{◌≡◌, ℕ, ◌+◌, List, [], ◌∷◌, ◌++◌, length, take, drop, refl, sym, ◌∙◌, ap, subst, arith, length-append, Some, None}
 use Rattle.std.specs.Prelude.{if◌then◌else◌, ◌==◌}
 use Rattle.std.specs.List.{AllByRecursion}
 use Rattle.igvm_headers.specs.declared.header.Header.{Header}
 use Rattle.igvm_headers.specs.declared.fault.ReadWhat.{ReadWhat}
-use Rattle.igvm_headers.specs.declared.fault.ReadWhat.TheVariants.{UnknownType, Length, DataType, NoPlatform}
-use Rattle.platform_masks.specs.Platforms.{platforms_of}
-use Rattle.igvm_image.specs.Rules.{Seen, seen_of, seen_after, rule_fault}
-use Rattle.igvm_image.proofs.RulesLemmas.{seen_of-push}
-use Rattle.igvm_image.proofs.Room.{HasRoom, has_room-none, has_room-push, has_room-platform}
-use Rattle.igvm_image.proofs.Walking.{Kept, kept_rules, not_chosen}
+use Rattle.igvm_headers.specs.declared.fault.ReadWhat.TheVariants.{NoPlatform}
+use Rattle.igvm_image.specs.Rules.{Seen, MayFollow, seen_of, rule_fault}
 use Rattle.component_list.specs.declared.component.Component.{Component}
-use Rattle.component_list.specs.Components.{is_unknown, carried_kind, breaks_length, breaks_data_type}
 use Rattle.component_list.specs.Ranges.{IsComponent}
-use Rattle.component_list.specs.Lists.{component_fault, fault_behind, list_fault, end_fault, unless_broken, fault_in, IsValid, AreComponents}
+use Rattle.component_list.specs.Lists.{component_fault, fault_behind, list_fault, unless_broken, fault_in}
 
--- The components before a place are judged, and the table is what the rules ask of their headers.
+-- The components before a place are judged, and the table is the summary of their headers.
 pub record Judging (parts : List Component) (table : Seen) (place : ℕ) : Type 0 where
   pub before : List Header
   pub seen : table ≡ seen_of before
-  pub room : HasRoom (seen_of before)
   pub counted : length before ≡ place
   pub same : fault_behind before (drop place parts) ≡ list_fault parts
   pub each : AllByRecursion IsComponent (take place parts)
@@ -28,25 +22,18 @@ pub judging_start : (parts : List Component) → Judging parts (seen_of []) 0
 judging_start parts = record {
   before = [];
   seen = refl;
-  room = has_room-none;
   counted = refl;
   same = refl;
   each = tt;
 }
 
-pub judging_room : (parts : List Component) (table : Seen) (place : ℕ) → Judging parts table place → HasRoom table
-judging_room parts table place j = subst HasRoom (sym j.seen) j.room
-
 -- a component without fault breaks none of the reader's rules
-pub rules_kept : (seen : Seen) (c : Component) → component_fault seen c ≡ None → rule_fault 0 seen c.header ≡ None
+rules_kept : (seen : Seen) (c : Component) → component_fault seen c ≡ None → rule_fault 0 seen c.header ≡ None
 unfolding component_fault
-rules_kept seen c none =
-    let known = not_chosen (is_unknown c.header) (UnknownType (carried_kind c.header)) _ none in
-    let sized = not_chosen (breaks_length c) Length _ known.1 in
-    (not_chosen (breaks_data_type c.header) DataType (rule_fault 0 seen c.header) sized.1).1
+rules_kept seen c none = grind arith
 
-pub judging_kept : (seen : Seen) (c : Component) → component_fault seen c ≡ None → Kept seen c.header
-judging_kept seen c none = kept_rules 0 seen c.header (rules_kept seen c none)
+pub judging_follows : (seen : Seen) (c : Component) → component_fault seen c ≡ None → MayFollow seen c.header
+judging_follows seen c none = (0, rules_kept seen c none)
 
 -- the component at a place is faulty
 pub judging_fault : (parts : List Component) (table : Seen) (place : ℕ) (c : Component) (what : ReadWhat)
@@ -69,18 +56,17 @@ each_more xs ys c each one same = subst (AllByRecursion IsComponent) (sym same) 
     joined [] all = (one, tt)
     joined (x ∷ xs) all = (all.0, joined xs all.1)
 
-pub judging_step : (parts : List Component) (table : Seen) (place : ℕ) (c : Component)
+pub judging_step : (parts : List Component) (table new : Seen) (place : ℕ) (c : Component)
     → (j : Judging parts table place) → drop place parts ≡ c ∷ drop (place + 1) parts → take (place + 1) parts ≡ take place parts ++ c ∷ []
-    → IsComponent c → component_fault table c ≡ None → Judging parts (seen_after table c.header) (place + 1)
+    → IsComponent c → component_fault table c ≡ None
+    → ((before : List Header) → table ≡ seen_of before → new ≡ seen_of (before ++ c.header ∷ [])) → Judging parts new (place + 1)
 unfolding fault_behind
-judging_step parts table place c j here taken is good =
+judging_step parts table new place c j here taken is good pushed =
     let found : component_fault (seen_of j.before) c ≡ None = ap (λ t. component_fault t c) (sym j.seen) ∙ good in
-    let rules = judging_kept (seen_of j.before) c found in
     let next = fault_behind (j.before ++ c.header ∷ []) (drop (place + 1) parts) in
     record {
       before = j.before ++ c.header ∷ [];
-      seen = ap (λ t. seen_after t c.header) j.seen ∙ sym (seen_of-push j.before c.header);
-      room = subst HasRoom (sym (seen_of-push j.before c.header)) (has_room-push (seen_of j.before) c.header j.room rules.mask rules.pages);
+      seen = pushed j.before j.seen;
       counted = length-append j.before (c.header ∷ []) ∙ ap (λ n. n + 1) j.counted;
       same = sym (ap (λ f. unless_broken (length j.before) f next) found) ∙ sym (ap (fault_behind j.before) here) ∙ j.same;
       each = each_more (take place parts) (take (place + 1) parts) c j.each is taken;

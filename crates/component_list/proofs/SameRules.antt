@@ -1,18 +1,16 @@
 -- No rule but the one on data outside the file looks at a header's file offset.
-use Rattle.std.proofs.Common.{◌≡◌, ℕ, ◌+◌, ◌<◌, List, [], ◌∷◌, ◌++◌, length, map, fold, refl, sym, ◌∙◌, ap, ap₂, arith, Option, Some, None, Bool, true, false}
-use Rattle.std.specs.Prelude.{if◌then◌else◌, ◌==◌, max}
+use Rattle.std.proofs.Common.{◌≡◌, ℕ, ◌+◌, List, [], ◌∷◌, ◌++◌, length, map, fold, refl, ◌∙◌, ap, ap₂, arith, None, false}
+use Rattle.std.specs.Prelude.{max}
 use Rattle.std.specs.Option.{option_to_list}
 use Rattle.std.specs.List.{cons_option}
 use Rattle.igvm_headers.specs.declared.header.Header.{Header}
-use Rattle.igvm_headers.specs.declared.header.Header.TheVariants.{Platform, Area, Page, Insert, Context}
-use Rattle.igvm_headers.specs.declared.fault.ReadWhat.{ReadWhat}
-use Rattle.igvm_headers.specs.declared.fault.ReadWhat.TheVariants.{Order, Mask, Align, AreaLimit, AreaRepeated, AreaUnknown, AreaSize, Wrap, DataOutside, TooManyPages}
-use Rattle.platform_masks.specs.Platforms.{platform_of, platforms_from, platforms_of}
+use Rattle.igvm_headers.specs.declared.header.Header.TheVariants.{Area, Page, Context}
+use Rattle.platform_masks.specs.Platforms.{platform_of, platforms_from}
 use Rattle.igvm_image.specs.declared.area_table.AreaEntry.{AreaEntry}
 use Rattle.igvm_image.specs.Areas.{area_entry, areas_of}
-use Rattle.igvm_image.specs.Rules.{Seen, seen_of, class_of, latest_class, pages_of, named_from, rule_fault, breaks_order, breaks_mask, breaks_align, breaks_area_limit, breaks_area_repeated, breaks_area_unknown, breaks_area_size, breaks_wrap, breaks_data, breaks_pages}
-use Rattle.igvm_image.proofs.Walking.{not_chosen}
-use Rattle.component_list.specs.Components.{offset_of, with_offset}
+use Rattle.igvm_image.specs.Rules.{Seen, seen_of, class_of, pages_of, named_from, rule_fault, breaks_order, breaks_mask, breaks_align, breaks_area_limit, breaks_area_repeated, breaks_area_unknown, breaks_area_size, breaks_wrap, breaks_data, breaks_pages}
+use Rattle.igvm_image.specs.RulesLaws.{keeps_rules, rule_fault-none}
+use Rattle.component_list.specs.Components.{with_offset}
 
 class_same : (at : ℕ) (h : Header) → class_of (with_offset at h) ≡ class_of h
 class_same at (Area bytes area offset) = refl
@@ -92,70 +90,13 @@ same_rules at seen (Page gpa mask offset large unmeasured kind) = record { order
 same_rules at seen (Context gpa mask offset vp) = record { order = refl; mask = refl; align = refl; limit = refl; repeated = refl; unknown = refl; size = refl; wrap = refl; pages = refl }
 same_rules at seen h = record { order = refl; mask = refl; align = refl; limit = refl; repeated = refl; unknown = refl; size = refl; wrap = refl; pages = refl }
 
--- a header that breaks none of the rules, one by one
-pub record KeepsRules (total : ℕ) (seen : Seen) (h : Header) : Type 0 where
-  pub order : breaks_order seen h ≡ false
-  pub mask : breaks_mask seen h ≡ false
-  pub align : breaks_align h ≡ false
-  pub limit : breaks_area_limit seen h ≡ false
-  pub repeated : breaks_area_repeated seen h ≡ false
-  pub unknown : breaks_area_unknown seen h ≡ false
-  pub size : breaks_area_size h ≡ false
-  pub wrap : breaks_wrap seen h ≡ false
-  pub outside : breaks_data total h ≡ false
-  pub pages : breaks_pages seen h ≡ false
-
-pub keeps_rules : (total : ℕ) (seen : Seen) (h : Header) → rule_fault total seen h ≡ None → KeepsRules total seen h
-unfolding rule_fault
-keeps_rules total seen h none =
-    let order = not_chosen (breaks_order seen h) Order _ none in
-    let mask = not_chosen (breaks_mask seen h) Mask _ order.1 in
-    let align = not_chosen (breaks_align h) Align _ mask.1 in
-    let limit = not_chosen (breaks_area_limit seen h) AreaLimit _ align.1 in
-    let repeated = not_chosen (breaks_area_repeated seen h) AreaRepeated _ limit.1 in
-    let unknown = not_chosen (breaks_area_unknown seen h) AreaUnknown _ repeated.1 in
-    let size = not_chosen (breaks_area_size h) AreaSize _ unknown.1 in
-    let wrap = not_chosen (breaks_wrap seen h) Wrap _ size.1 in
-    let outside = not_chosen (breaks_data total h) DataOutside _ wrap.1 in
-    let pages = not_chosen (breaks_pages seen h) TooManyPages None outside.1 in
-    record {
-      order = order.0;
-      mask = mask.0;
-      align = align.0;
-      limit = limit.0;
-      repeated = repeated.0;
-      unknown = unknown.0;
-      size = size.0;
-      wrap = wrap.0;
-      outside = outside.0;
-      pages = pages.0;
-    }
-
-pub passed_over : (b : Bool) (what : ReadWhat) (rest : Option ReadWhat) → b ≡ false → rest ≡ None → (if b then Some what else rest) ≡ None
-passed_over true what rest kept none = cc
-passed_over false what rest kept none = none
-
-pub rules_none : (total : ℕ) (seen : Seen) (h : Header) → KeepsRules total seen h → rule_fault total seen h ≡ None
-unfolding rule_fault
-rules_none total seen h k =
-    passed_over _ _ _ k.order
-    (passed_over _ _ _ k.mask
-    (passed_over _ _ _ k.align
-    (passed_over _ _ _ k.limit
-    (passed_over _ _ _ k.repeated
-    (passed_over _ _ _ k.unknown
-    (passed_over _ _ _ k.size
-    (passed_over _ _ _ k.wrap
-    (passed_over _ _ _ k.outside
-    (passed_over _ _ _ k.pages refl)))))))))
-
 -- the same rules at another file offset and in a file of another size
 pub rules_at : (total other at : ℕ) (seen : Seen) (h : Header) → rule_fault total seen h ≡ None
     → breaks_data other (with_offset at h) ≡ false → rule_fault other seen (with_offset at h) ≡ None
 rules_at total other at seen h none inside =
     let kept = keeps_rules total seen h none in
     let same = same_rules at seen h in
-    rules_none other seen (with_offset at h) (record {
+    rule_fault-none other seen (with_offset at h) (record {
       order = same.order ∙ kept.order;
       mask = same.mask ∙ kept.mask;
       align = same.align ∙ kept.align;

@@ -9,8 +9,8 @@ ghost use Rattle.component_list.specs.Lists.{component_fault, list_fault, IsVali
 use crate::component::{Component, Content};
 use crate::list_fault::ListFault;
 use crate::ranges::note_component;
-use crate::table::Table;
 use igvm_headers::{Header, PageKind, ReadWhat};
+use igvm_image::SeenHeaders;
 
 /// The bytes of an ID block that are carried unread.
 const ID_BLOCK_TAIL: u32 = 592;
@@ -22,16 +22,16 @@ pub(crate) fn judge(parts: &[Component]) -> Result<(), ListFault>
     ensures valid { OnOk result (IsValid parts.now) }
     ensures fault { IfErr result (λ e. list_fault parts.now ≡ Some e) }
 {
-    let mut table = Table::new();
+    let mut seen = SeenHeaders::new();
     'parts: for (place, component) in parts.iter().enumerate() {
         note_component(component);
-        if let Some(what) = component_fault(&table, component) {
+        if let Some(what) = component_fault(&seen, component) {
             let place = place as u32;
             return Err(ListFault { place, what });
         }
-        table.push(&component.header);
+        seen.push(&component.header);
     }
-    if table.platforms().count() == 0 {
+    if seen.platforms().count() == 0 {
         let place = parts.len() as u32;
         let what = ReadWhat::NoPlatform;
         return Err(ListFault { place, what });
@@ -39,12 +39,10 @@ pub(crate) fn judge(parts: &[Component]) -> Result<(), ListFault>
     Ok(())
 }
 
-/// The first rule that a component breaks behind those of a table.
+/// The first rule that a component breaks behind those seen.
 #[tactic(auto, unfolding(crate::specs::Lists::component_fault))]
-fn component_fault(table: &Table, component: &Component) -> Option<ReadWhat>
-    requires pages { table.now.pages ≤ 4194304 }
-    requires offset { offset_of component.now.header ≡ 0 }
-    ensures { result ≡ component_fault table.now component.now }
+fn component_fault(seen: &SeenHeaders, component: &Component) -> Option<ReadWhat>
+    ensures { result ≡ component_fault seen.now component.now }
 {
     if let Some(kind) = unknown_kind(&component.header) {
         return Some(ReadWhat::UnknownType { kind });
@@ -55,7 +53,8 @@ fn component_fault(table: &Table, component: &Component) -> Option<ReadWhat>
     if breaks_data_type(&component.header) {
         return Some(ReadWhat::DataType);
     }
-    table.rule_fault(&component.header)
+    // Data at file offset 0 lie inside whatever the total size.
+    seen.rule_fault(0, &component.header)
 }
 
 /// The type of a header that is neither known nor carried unread.

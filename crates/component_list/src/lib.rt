@@ -1,7 +1,6 @@
 //! Component lists of IGVM images: from parts, from their JSON, and from images.
 #![tactic(auto)]
 
-mod area_table;
 mod blob;
 mod component;
 mod directives;
@@ -27,7 +26,6 @@ mod refusal;
 mod runs;
 mod slices;
 mod source;
-mod table;
 #[cfg(test)]
 mod tests;
 

@@ -1,15 +1,13 @@
-use Rattle.std.proofs.Common.{◌≡◌, ℕ, suc, ◌+◌, ◌<◌, ◌≤◌, List, [], ◌∷◌, ◌++◌, length, take, drop, get_or, refl, sym, ◌∙◌, ap, subst, add-one, drop-cons, arith, Some, None, Bool, true, false}
-use Rattle.std.specs.Prelude.{if◌then◌else◌, ◌==◌, Option}
+use Rattle.std.proofs.Common.{◌≡◌, ℕ, suc, ◌+◌, ◌<◌, ◌≤◌, List, [], ◌∷◌, ◌++◌, length, take, drop, get_or, sym, ◌∙◌, ap, subst, add-one, drop-cons, arith, Some, None, true, false}
+use Rattle.std.specs.Prelude.{if◌then◌else◌, ◌==◌}
 use Rattle.std.specs.List.{AllByRecursion}
 use Rattle.std.proofs.lemmas.List.{take_more, drop_all, take_all}
 use Rattle.igvm_headers.specs.declared.fault.ReadWhat.TheVariants.{NoPlatform}
-use Rattle.igvm_image.specs.Rules.{Seen, seen_after}
-use Rattle.igvm_image.proofs.Room.{has_room-platform}
+use Rattle.igvm_image.specs.Rules.{Seen}
 use Rattle.component_list.specs.declared.component.Component.{Component}
-use Rattle.component_list.specs.declared.list_fault.ListFault.{ListFault}
 use Rattle.component_list.specs.Ranges.{IsComponent}
 use Rattle.component_list.specs.Lists.{fault_in}
-use Rattle.component_list.proofs.Judged.{Judging, judging_start, judging_room, judging_kept, judging_fault, judging_step, judging_done}
+use Rattle.component_list.proofs.Judged.{Judging, judging_start, judging_follows, judging_fault, judging_step, judging_done}
 use Rattle.component_list.proofs.judging.judge.Goals as goal
 
 -- the component at a place, and those behind it
@@ -23,35 +21,27 @@ taken : (parts : List Component) (place : ℕ) (c : Component) → place < lengt
 taken parts place c within is = take_more parts place c within ∙ ap (λ x. take place parts ++ x ∷ []) (sym is)
 
 pub parts-init : goal.parts-init
-parts-init c = subst (λ (t : Seen). Judging c.args.parts.now t 0) (sym c.new-table.ensures) (judging_start c.args.parts.now)
+parts-init c = subst (λ (t : Seen). Judging c.args.parts.now t 0) (sym c.new-seen.ensures) (judging_start c.args.parts.now)
 
 pub returns-in-Some-clause-fault : goal.returns-in-Some-clause-fault
 returns-in-Some-clause-fault c =
     let within : c.parts.place < length c.args.parts.now = omega arith in
     judging_fault _ _ _ _ _ c.parts.invariant (left _ _ _ within c.index-parts-place.is) (sym c.in-Some.ensures)
 
-pub push-requires-clause-platforms : goal.push-requires-clause-platforms
-push-requires-clause-platforms c =
-    has_room-platform _ _ (judging_room _ _ _ c.parts.invariant) (judging_kept _ _ (sym c.in_default.ensures)).mask
-
-pub push-requires-clause-areas : goal.push-requires-clause-areas
-push-requires-clause-areas c = (judging_kept _ _ (sym c.in_default.ensures)).limit
-
-pub push-requires-clause-pages : goal.push-requires-clause-pages
-push-requires-clause-pages c = (judging_kept _ _ (sym c.in_default.ensures)).pages
+pub push-requires : goal.push-requires
+push-requires c = judging_follows _ _ (sym c.in_default.ensures)
 
 pub parts-preserved : goal.parts-preserved
 parts-preserved c =
     let within : c.parts.place < length c.args.parts.now = omega arith in
-    subst (λ (t : Seen). Judging c.args.parts.now t (c.parts.place + 1)) (sym c.push.ensures)
-    (judging_step _ _ _ _ c.parts.invariant (left _ _ _ within c.index-parts-place.is) (taken _ _ _ within c.index-parts-place.is)
-    c.note_component.ensures (sym c.in_default.ensures))
+    judging_step _ _ _ _ _ c.parts.invariant (left _ _ _ within c.index-parts-place.is) (taken _ _ _ within c.index-parts-place.is)
+    c.note_component.ensures (sym c.in_default.ensures) c.push.ensures.seen
 
 pub returns-then-count-eq0-clause-fault : goal.returns-then-count-eq0-clause-fault
 returns-then-count-eq0-clause-fault c =
     let past : length c.args.parts.now ≤ c.parts.place = omega arith in
     let end : c.parts.place ≡ length c.args.parts.now = omega arith in
-    let none : (length c.parts.table.platforms == 0) ≡ true = grind arith in
+    let none : (length c.parts.seen.platforms == 0) ≡ true = grind arith in
     judging_done _ _ _ c.parts.invariant (drop_all _ _ past)
     ∙ ap (λ b. if b then Some (fault_in c.parts.place NoPlatform) else None) none
     ∙ ap (λ place. Some (fault_in place NoPlatform)) end
@@ -59,7 +49,7 @@ returns-then-count-eq0-clause-fault c =
 pub returns-clause-valid : goal.returns-clause-valid
 returns-clause-valid c =
     let past : length c.args.parts.now ≤ c.parts.place = omega arith in
-    let some : (length c.parts.table.platforms == 0) ≡ false = grind arith in
+    let some : (length c.parts.seen.platforms == 0) ≡ false = grind arith in
     record {
       kept = judging_done _ _ _ c.parts.invariant (drop_all _ _ past)
           ∙ ap (λ b. if b then Some (fault_in c.parts.place NoPlatform) else None) some;

@@ -2,4 +2,4 @@ use Rattle.component_list.proofs.Judged.{Judging}
 use Rattle.component_list.proofs.judging.judge.Given as goal
 
 abbrev pub invariant-parts : goal.invariant-parts
-invariant-parts l = Judging l.parts l.table l.place
+invariant-parts l = Judging l.parts l.seen l.place
