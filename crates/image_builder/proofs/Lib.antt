@@ -5,6 +5,7 @@ pub mod Writes
 pub mod Lengths
 pub mod Saturated
 pub mod Written
+pub mod Fronts
 pub mod ReadBackContents
 pub mod ReadBackPages
 pub mod ReadBackBytes

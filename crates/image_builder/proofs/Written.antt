@@ -6,7 +6,7 @@ use Rattle.std.proofs.lemmas.List.Folds.{concat-append}
 use Rattle.byteorder.specs.Endian.{little_bytes}
 use Rattle.igvm_headers.specs.Checksum.{crc}
 use Rattle.component_list.specs.declared.component.Component.{Component}
-use Rattle.image_builder.specs.Keeping.{lent}
+use Rattle.igvm_outside.specs.Pieces.{lent}
 use Rattle.image_builder.specs.Layout.{section_size, data_start, kept_contents, written, section, data_bytes, fixed_front, put_together, layout_size, layout}
 
 -- one header more
@@ -48,21 +48,19 @@ contents_more contents old now next place d bytes before inside is more =
     ∙ append_assoc old (concat (lent (take place contents))) content.now
     ∙ ap (λ bs. old ++ bs) (sym grown)
 
--- the fixed header with zeros, the section, the checksum in its place, and the contents
-pub whole : (size total : ℕ) (headers bytes first second third fourth : List ℕ)
+-- the fixed header with zeros, the section, and the checksum in its place
+pub whole : (size total : ℕ) (headers bytes first second third : List ℕ)
     → first ≡ fixed_front size total ++ replicate 4 0 → second ≡ first ++ headers
-    → third ≡ take 20 second ++ little_bytes 4 (crc second) ++ drop 24 second → fourth ≡ third ++ bytes
-    → fourth ≡ put_together (fixed_front size total) headers bytes
-whole size total headers bytes first second third fourth front headed sealed ended =
+    → third ≡ take 20 second ++ little_bytes 4 (crc second) ++ drop 24 second
+    → third ++ bytes ≡ put_together (fixed_front size total) headers bytes
+whole size total headers bytes first second third front headed sealed =
     let all : second ≡ fixed_front size total ++ replicate 4 0 ++ headers = headed ∙ ap (λ f. f ++ headers) front in
-    ended ∙ ap (λ t. t ++ bytes) (sealed ∙ ap (λ s. take 20 s ++ little_bytes 4 (crc s) ++ drop 24 s) all)
+    ap (λ t. t ++ bytes) (sealed ∙ ap (λ s. take 20 s ++ little_bytes 4 (crc s) ++ drop 24 s) all)
 
-pub whole_layout : (parts : List Component) (size total : ℕ) (kept : List (List ℕ)) (image : List ℕ)
-    → size ≡ section_size parts → total ≡ layout_size parts → kept ≡ kept_contents parts
-    → image ≡ put_together (fixed_front size total) (section parts) (concat kept) → image ≡ layout parts
-unfolding layout data_bytes
-whole_layout parts size total kept image sized summed same is =
+pub whole_layout : (parts : List Component) (size total : ℕ) (image : List ℕ) → size ≡ section_size parts → total ≡ layout_size parts
+    → image ≡ put_together (fixed_front size total) (section parts) (data_bytes parts) → image ≡ layout parts
+unfolding layout
+whole_layout parts size total image sized summed is =
     is
-    ∙ ap (λ n. put_together (fixed_front n total) (section parts) (concat kept)) sized
-    ∙ ap (λ n. put_together (fixed_front (section_size parts) n) (section parts) (concat kept)) summed
-    ∙ ap (λ ks. put_together (fixed_front (section_size parts) (layout_size parts)) (section parts) (concat ks)) same
+    ∙ ap (λ n. put_together (fixed_front n total) (section parts) (data_bytes parts)) sized
+    ∙ ap (λ n. put_together (fixed_front (section_size parts) n) (section parts) (data_bytes parts)) summed

@@ -1,5 +1,5 @@
 -- How contents are kept one after the other, and numbers that stop at the greatest of 64 bits.
-use Rattle.std.specs.Prelude.{◌≡◌, ℕ, ◌+◌, ◌-◌, ◌^◌, List, [], ◌∷◌, ◌++◌, min, map, Bool, bytes_eq, if◌then◌else◌, Option, Some, None}
+use Rattle.std.specs.Prelude.{◌≡◌, ℕ, ◌+◌, ◌-◌, ◌^◌, List, [], ◌∷◌, ◌++◌, min, Bool, bytes_eq, if◌then◌else◌, Option, Some, None}
 use Rattle.std.specs.List.{list_any}
 use Rattle.std.specs.Ordering.{nat_cmp}
 use Rattle.std.specs.Cmp.Lexicographic.{slice_cmp}
@@ -27,10 +27,6 @@ pub record Row : Type 0 where
 -- where these bytes stand in such a row, if they do
 abbrev pub place_in : ℕ → List (List ℕ) → List ℕ → Option ℕ
 place_in start kept bytes = if is_kept bytes kept then Some (saturated (start + place_of bytes kept)) else None
-
--- the bytes of contents that are lent
-abbrev pub lent : List (Bor (List ℕ)) → List (List ℕ)
-lent contents = map (λ bytes. bytes.now) contents
 
 -- a map has the place of each content of a row, and of no other
 pub record IsIndex (places : BTreeMap (Bor (List ℕ)) ℕ) (start : ℕ) (kept : List (List ℕ)) : Type 0 where

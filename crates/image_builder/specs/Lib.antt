@@ -3,6 +3,8 @@ pub mod Layout
 pub mod Keeping
 pub mod Refusals
 pub mod Plans
+pub mod InPieces
+pub use Rattle.igvm_outside.specs.Pieces
 pub use Rattle.igvm_image.specs.Headers
 pub use Rattle.component_list.specs.Lists
 pub use Rattle.component_list.specs.Images

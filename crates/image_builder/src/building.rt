@@ -1,25 +1,20 @@
-//! The builder: docs/FORMAT.md says in words what it writes.
-ghost use Rattle.std.specs.Prelude.{◌≡◌, ◌≤◌, length, IfOk, IfErr, OnOk};
+//! The builder's image in one place.
+ghost use Rattle.std.specs.Prelude.{◌≡◌, ◌≤◌, ◌++◌, length, IfOk, IfErr, OnOk};
+ghost use Rattle.std.specs.List.{concat};
+ghost use Rattle.igvm_outside.specs.Pieces.{lent};
 ghost use Rattle.igvm_image.specs.Headers.{IsAccepted};
 ghost use Rattle.component_list.specs.Images.{list_of};
 ghost use Rattle.image_builder.specs.Layout.{layout};
 ghost use Rattle.image_builder.specs.Refusals.{IsTooLarge};
 
-use crate::laws::layout_has_its_size;
-use crate::plan::Plan;
-use crate::read_back::built_is_read_back;
+use crate::image::Image;
 use crate::refusal::BuildRefusal;
-use crate::spellable::note_spellable;
-use crate::writing::write_image;
+use crate::writing::append;
 use component_list::ComponentList;
 use igvm_headers::Memory;
 use std::alloc::Global;
 
-/// The bytes that an image has at most.
-const IMAGE_LIMIT: u64 = 536_870_912;
-
-/// The image of a list, in which equal contents stand once. Sizes are summed before anything is
-/// written, so a list that is too large takes no memory for its image.
+/// The bytes of a list's image. A list that is too large takes no memory for them.
 pub fn build(alloc: Global, list: &ComponentList) -> Result<Vec<u8>, BuildRefusal>
     ensures image { IfOk result (λ image. image.items ≡ layout list.now) }
     ensures accepted { IfOk result (λ image. IsAccepted image.items) }
@@ -27,19 +22,31 @@ pub fn build(alloc: Global, list: &ComponentList) -> Result<Vec<u8>, BuildRefusa
     ensures within { OnOk result (length (layout list.now) ≤ 536870912) }
     ensures too_large { IfErr result (IsTooLarge (length (layout list.now))) }
 {
-    let parts = list.components();
-    note_spellable(parts);
-    layout_has_its_size();
-    built_is_read_back();
-    let Ok(plan) = Plan::of(alloc, parts) else {
-        return Err(BuildRefusal::Memory);
-    };
-    let bytes = plan.contents.end();
-    if bytes > IMAGE_LIMIT {
-        return Err(BuildRefusal::TooLarge { bytes });
-    }
-    match write_image(alloc, parts, &plan) {
-        Ok(image) => Ok(image),
+    let image = Image::of(alloc, list)?;
+    match join(alloc, &image) {
+        Ok(bytes) => Ok(bytes),
         Err(Memory) => Err(BuildRefusal::Memory),
     }
+}
+
+/// The bytes of an image, its contents copied.
+fn join(alloc: Global, image: &Image) -> Result<Vec<u8>, Memory>
+    ensures { IfOk result (λ bytes. bytes.items ≡ image.now) }
+{
+    let Ok(mut bytes) = Vec::with_capacity(alloc, image.len() as usize) else {
+        return Err(Memory);
+    };
+    append(image.front(), &mut bytes)?;
+    append_all(image.contents(), &mut bytes)?;
+    Ok(bytes)
+}
+
+/// The contents one behind the other.
+fn append_all(contents: &[&[u8]], bytes: &mut Vec<u8>) -> Result<(), Memory>
+    ensures { OnOk result (bytes.new.items ≡ bytes.old.items ++ concat (lent contents.now)) }
+{
+    'contents: for content in contents {
+        append(*content, bytes)?;
+    }
+    Ok(())
 }

@@ -1,7 +1,8 @@
 //! The contents of a list, each kept once, with the place where it will stand in the file.
 ghost use Rattle.std.specs.Prelude.{◌≡◌, ◌+◌, List, ℕ, [], ◌++◌, length, sum_by, IfOk, OnOk, None};
 ghost use Rattle.image_builder.specs.Contents.{place_of};
-ghost use Rattle.image_builder.specs.Keeping.{kept_with, lent, place_in, saturated};
+ghost use Rattle.igvm_outside.specs.Pieces.{lent};
+ghost use Rattle.image_builder.specs.Keeping.{kept_with, place_in, saturated};
 
 use igvm_headers::Memory;
 use std::alloc::Global;
@@ -20,7 +21,8 @@ pub(crate) struct Contents<'a> {
 
 impl<'a> Model for Contents<'a> {
     ghost use Rattle.std.specs.Prelude.{◌≡◌, ◌+◌, length, sum_by};
-    ghost use Rattle.image_builder.specs.Keeping.{Row, IsIndex, lent, saturated};
+    ghost use Rattle.igvm_outside.specs.Pieces.{lent};
+    ghost use Rattle.image_builder.specs.Keeping.{Row, IsIndex, saturated};
 
     ghost Value = { Row };
 
@@ -86,11 +88,11 @@ impl<'a> Contents<'a> {
         Ok(place)
     }
 
-    /// The contents in order.
-    pub(crate) fn kept(&self) -> &[&'a [u8]]
-        ensures { lent result.now ≡ self.now.kept }
+    /// The place of the first, also where there is none.
+    pub(crate) fn start(&self) -> u64
+        ensures { result ≡ self.now.start }
     {
-        self.kept.as_slice()
+        self.start
     }
 
     /// The place behind the last.
@@ -98,5 +100,12 @@ impl<'a> Contents<'a> {
         ensures { result ≡ saturated (self.now.start + sum_by length self.now.kept) }
     {
         self.end
+    }
+
+    /// The contents in order, without their places.
+    pub(crate) fn into_kept(self) -> Vec<&'a [u8]>
+        ensures { lent result.items ≡ self.entry.kept }
+    {
+        self.kept
     }
 }

@@ -3,6 +3,7 @@
 
 mod building;
 mod contents;
+mod image;
 mod laws;
 mod placing;
 mod plan;
@@ -15,6 +16,7 @@ mod tests;
 mod writing;
 
 pub use building::build;
+pub use image::Image;
 pub use laws::layout_has_its_size;
 pub use read_back::built_is_read_back;
 pub use refusal::BuildRefusal;

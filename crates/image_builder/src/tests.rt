@@ -1,7 +1,7 @@
 //! Images of lists, against bytes and checksums that a program in Python made of the same lists
 //! with zlib.
 
-use crate::{BuildRefusal, build};
+use crate::{BuildRefusal, Image, build};
 use byteorder::{ByteOrder, LittleEndian};
 use component_list::{Blob, Content};
 use igvm_headers::{Header, PageKind, ParamKind, PlatformKind, crc32};
@@ -157,7 +157,12 @@ fn push_placed(alloc: Global, parts: &mut Parts) -> Result<(), Fail> {
 #[test]
 fn builds_a_realistic_list(rt: HostRuntime) -> Result<(), Fail> {
     let alloc = rt.alloc();
-    let image = build(alloc, &realistic(alloc)?.list()?)?;
+    let list = realistic(alloc)?.list()?;
+    let pieces = Image::of(alloc, &list)?;
+    assert_eq!(rt; pieces.len(), 41_640);
+    assert_eq!(rt; pieces.front().len(), 680);
+    assert_eq!(rt; pieces.contents().len(), 10);
+    let image = build(alloc, &list)?;
     assert_eq!(rt; number_at(image.as_slice(), 268), Some(680));
     assert_eq!(rt; image.len(), 41_640);
     assert_eq!(rt; crc32(image.as_slice()), 0x691B_D8C0);

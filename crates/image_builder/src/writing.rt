@@ -1,14 +1,13 @@
-//! The bytes of an image, written in one pass but for the checksum, which stands before what it
-//! covers.
+//! What stands before the data of an image, written in one pass but for the checksum, which stands
+//! before what it covers.
 ghost use Rattle.std.specs.Prelude.{◌≡◌, ◌≤◌, ◌+◌, ◌++◌, ◌<◌, ◌^◌, length, take, drop, replicate, IfOk, OnOk};
-ghost use Rattle.std.specs.List.{AllByRecursion, concat};
+ghost use Rattle.std.specs.List.{AllByRecursion};
 ghost use Rattle.byteorder.specs.Endian.{little_bytes};
 ghost use Rattle.igvm_headers.specs.Checksum.{crc};
 ghost use Rattle.igvm_headers.specs.Spelling.{spelled};
 ghost use Rattle.igvm_headers.specs.Spellable.{IsSpellable};
 ghost use Rattle.component_list.specs.Components.{with_offset};
-ghost use Rattle.image_builder.specs.Keeping.{lent};
-ghost use Rattle.image_builder.specs.Layout.{data_start, kept_contents, section, fixed_front, layout, layout_size};
+ghost use Rattle.image_builder.specs.Layout.{data_start, kept_contents, section, data_bytes, fixed_front, layout, layout_size};
 ghost use Rattle.image_builder.specs.Plans.{IsPlan, offsets_in};
 
 use crate::placing::with_offset;
@@ -20,8 +19,8 @@ use std::alloc::Global;
 /// Where the checksum stands.
 const CHECKSUM_AT: usize = 20;
 
-/// The image of these components, as it is planned.
-pub(crate) fn write_image(
+/// The front of the image of these components, as it is planned: the fixed header and the headers.
+pub(crate) fn write_front(
     alloc: Global,
     parts: &[Component],
     plan: &Plan,
@@ -29,21 +28,20 @@ pub(crate) fn write_image(
     requires each { AllByRecursion (λ c. IsSpellable c.header c.tail) parts.now }
     requires planned { IsPlan plan.now.section plan.now.offsets.items plan.now.contents parts.now }
     requires within { layout_size parts.now ≤ 536870912 }
-    ensures { IfOk result (λ image. image.items ≡ layout parts.now) }
+    ensures { IfOk result (λ front. front.items ++ data_bytes parts.now ≡ layout parts.now) }
 {
-    let total = plan.contents.end();
-    let Ok(mut image) = Vec::with_capacity(alloc, total as usize) else {
+    let Ok(mut image) = Vec::with_capacity(alloc, plan.contents.start() as usize) else {
         return Err(Memory);
     };
-    write_front(plan.section as u32, total as u32, &mut image)?;
+    let total = plan.contents.end();
+    write_fixed(plan.section as u32, total as u32, &mut image)?;
     write_headers(parts, plan.offsets.as_slice(), &mut image)?;
     write_checksum(&mut image);
-    write_contents(plan.contents.kept(), &mut image)?;
     Ok(image)
 }
 
 /// The fixed header, with zeros for its checksum.
-fn write_front(section: u32, total: u32, image: &mut Vec<u8>) -> Result<(), Memory>
+fn write_fixed(section: u32, total: u32, image: &mut Vec<u8>) -> Result<(), Memory>
     ensures { OnOk result (image.new.items
         ≡ image.old.items ++ fixed_front section total ++ replicate 4 0) }
 {
@@ -98,17 +96,8 @@ fn put(bytes: &[u8], at: usize, image: &mut [u8])
     image[at..end].copy_from_slice(bytes);
 }
 
-/// The contents one behind the other.
-fn write_contents(contents: &[&[u8]], image: &mut Vec<u8>) -> Result<(), Memory>
-    ensures { OnOk result (image.new.items ≡ image.old.items ++ concat (lent contents.now)) }
-{
-    'contents: for content in contents {
-        append(*content, image)?;
-    }
-    Ok(())
-}
-
-fn append(bytes: &[u8], image: &mut Vec<u8>) -> Result<(), Memory>
+/// These bytes behind those that are written.
+pub(crate) fn append(bytes: &[u8], image: &mut Vec<u8>) -> Result<(), Memory>
     ensures { OnOk result (image.new.items ≡ image.old.items ++ bytes.now) }
 {
     match image.extend_from_slice(bytes) {

@@ -1,10 +1,9 @@
 -- the numbers of the plan are exact within the limit
 use Rattle.std.proofs.Common.{◌≡◌, ◌++◌, replicate, ap, ◌∙◌, arith}
-use Rattle.image_builder.specs.Layout.{section_size, layout_size, section, fixed_front}
-use Rattle.std.specs.List.{concat}
+use Rattle.image_builder.specs.Layout.{section_size, layout_size, section, data_bytes, fixed_front}
 use Rattle.image_builder.proofs.Saturated.{plan_end, section_within}
 use Rattle.image_builder.proofs.Written.{whole, whole_layout}
-use Rattle.image_builder.proofs.writing.write_image.Goals as goal
+use Rattle.image_builder.proofs.writing.write_front.Goals as goal
 
 pub overflow_cast-plan : goal.overflow_cast-plan
 overflow_cast-plan c = omega (arith, section_within c.args.parts.now, c.requires.planned.sized)
@@ -20,11 +19,9 @@ returns c =
     let end = c.end-total.ensures ∙ plan_end _ _ c.args.plan.now.contents parts c.requires.planned in
     let total : c.end-total.result ≡ layout_size parts = omega (arith, end) in
     let size : c.args.plan.now.section ≡ section_size parts = omega (arith, section_within parts, c.requires.planned.sized) in
-    let front = c.in_ok-write_front.ensures
+    let fixed = c.in_ok-write_fixed.ensures
     ∙ ap (λ old. old ++ fixed_front c.args.plan.now.section c.end-total.result ++ replicate 4 0) c.in-Ok.ensures.items in
-    let ended = c.in_ok-write_contents.ensures
-    ∙ ap (λ kept. c.write_checksum.new.image.items ++ concat kept) c.kept.ensures in
-    whole_layout parts c.args.plan.now.section c.end-total.result c.args.plan.now.contents.kept _ size total c.requires.planned.holds
-    (whole c.args.plan.now.section c.end-total.result (section parts) (concat c.args.plan.now.contents.kept)
-    c.write_front.new.image.items c.write_headers.new.image.items c.write_checksum.new.image.items c.write_contents.new.image.items
-    front c.in_ok-write_headers.ensures c.write_checksum.ensures ended)
+    whole_layout parts c.args.plan.now.section c.end-total.result _ size total
+    (whole c.args.plan.now.section c.end-total.result (section parts) (data_bytes parts)
+    c.write_fixed.new.image.items c.write_headers.new.image.items c.write_checksum.new.image.items
+    fixed c.in_ok-write_headers.ensures c.write_checksum.ensures)

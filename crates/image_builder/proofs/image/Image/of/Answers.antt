@@ -5,7 +5,7 @@ use Rattle.component_list.specs.Images.{list_of}
 use Rattle.image_builder.specs.Keeping.{saturated}
 use Rattle.image_builder.specs.Layout.{layout, layout_size}
 use Rattle.image_builder.proofs.Saturated.{plan_end}
-use Rattle.image_builder.proofs.building.build.Goals as goal
+use Rattle.image_builder.proofs.image.Image.of.Goals as goal
 
 pub returns-then-bytes-gt-IMAGE_LIMIT-clause-too_large : goal.returns-then-bytes-gt-IMAGE_LIMIT-clause-too_large
 returns-then-bytes-gt-IMAGE_LIMIT-clause-too_large c =
@@ -16,13 +16,13 @@ returns-then-bytes-gt-IMAGE_LIMIT-clause-too_large c =
     sym (c.layout_has_its_size.ensures.layout parts) ∙ ap (λ ps. length (layout ps)) c.components-parts.ensures.value in
     (omega (arith, end, size), end ∙ ap saturated size)
 
-pub write_image-requires-clause-within : goal.write_image-requires-clause-within
-write_image-requires-clause-within c =
+pub planned-requires-clause-within : goal.planned-requires-clause-within
+planned-requires-clause-within c =
     let end = c.end-bytes.ensures ∙ plan_end _ _ c.in-Ok.plan.contents c.components-parts.result.now c.in-Ok.ensures in
     omega (arith, end)
 
-pub returns-in-Ok-write_image-clause-within : goal.returns-in-Ok-write_image-clause-within
-returns-in-Ok-write_image-clause-within c =
+pub returns-in-Ok-planned-clause-within : goal.returns-in-Ok-planned-clause-within
+returns-in-Ok-planned-clause-within c =
     let parts = c.components-parts.result.now in
     let end = c.end-bytes.ensures ∙ plan_end _ _ c.in-Ok.plan.contents parts c.in-Ok.ensures in
     let size : length (layout c.args.list.now) ≡ layout_size parts =
@@ -30,18 +30,18 @@ returns-in-Ok-write_image-clause-within c =
     omega (arith, end, size)
 
 -- a layout within the limit is read back
-pub returns-in-Ok-write_image-clause-accepted : goal.returns-in-Ok-write_image-clause-accepted
-returns-in-Ok-write_image-clause-accepted c =
+pub returns-in-Ok-planned-clause-accepted : goal.returns-in-Ok-planned-clause-accepted
+returns-in-Ok-planned-clause-accepted c =
     let same = c.components-parts.ensures.value in
     let end = c.end-bytes.ensures ∙ plan_end _ _ c.in-Ok.plan.contents c.components-parts.result.now c.in-Ok.ensures in
     let within : layout_size c.args.list.now ≤ 536870912 = omega (arith, end, ap layout_size same) in
-    ap fault_of (c.in-Ok-write_image.ensures ∙ ap layout same)
+    ap fault_of (c.in-Ok-planned.ensures ∙ ap layout same)
     ∙ c.built_is_read_back.ensures.accepted c.args.list.now c.components-parts.ensures.valid within
 
-pub returns-in-Ok-write_image-clause-list : goal.returns-in-Ok-write_image-clause-list
-returns-in-Ok-write_image-clause-list c =
+pub returns-in-Ok-planned-clause-list : goal.returns-in-Ok-planned-clause-list
+returns-in-Ok-planned-clause-list c =
     let same = c.components-parts.ensures.value in
     let end = c.end-bytes.ensures ∙ plan_end _ _ c.in-Ok.plan.contents c.components-parts.result.now c.in-Ok.ensures in
     let within : layout_size c.args.list.now ≤ 536870912 = omega (arith, end, ap layout_size same) in
-    ap list_of (c.in-Ok-write_image.ensures ∙ ap layout same)
+    ap list_of (c.in-Ok-planned.ensures ∙ ap layout same)
     ∙ c.built_is_read_back.ensures.list c.args.list.now c.components-parts.ensures.valid within
