@@ -1,5 +1,5 @@
 -- What a header keeps that is read from a content.
-use Rattle.std.proofs.Common.{◌≡◌, ℕ, ◌+◌, ◌<◌, List, [], ◌∷◌, length, drop, refl, sym, subst, ◌∙◌, ap, arith, Option, Some, None, Result, Ok, Err, Bool, true, false}
+use Rattle.std.proofs.Common.{◌≡◌, ℕ, List, length, drop, refl, subst, ap, arith, Option, Some, None, Result, Ok, Err, Bool, true, false}
 use Rattle.std.specs.Prelude.{if◌then◌else◌, ◌==◌, ◌||◌, ◌&&◌, not}
 use Rattle.std.proofs.lemmas.List.{length-drop}
 use Rattle.std.proofs.lemmas.Bool.{eqb-true}
@@ -7,12 +7,11 @@ use Rattle.igvm_headers.specs.Numbers.{number_at}
 use Rattle.igvm_headers.specs.Records.{header_form, of_length, platform_form, platform_fields, platform_kind_of, policy_form, area_form, page_form, page_fields, page_with, page_kind_of, least_set, is_set, insert_form, context_form, required_form, id_block_form, error_range_form, param_form, param_or_carried, param_kind_of, carried_form, is_carried}
 use Rattle.igvm_headers.specs.declared.platform_kind.PlatformKind.{PlatformKind}
 use Rattle.igvm_headers.specs.declared.page_kind.PageKind.{PageKind}
-use Rattle.igvm_headers.specs.declared.page_kind.PageKind.TheVariants.{Normal, Secrets, Cpuid, CpuidXf}
 use Rattle.igvm_headers.specs.declared.param_kind.ParamKind.{ParamKind}
 use Rattle.igvm_headers.specs.declared.fault.HeaderFault.{HeaderFault}
 use Rattle.igvm_headers.specs.declared.fault.HeaderFault.TheVariants.{UnknownType, Length, DataType}
 use Rattle.igvm_headers.specs.declared.header.Header.{Header}
-use Rattle.igvm_headers.specs.declared.header.Header.TheVariants.{Platform, Policy, Area, Page, Insert, Param, Context, Required, ErrorRange, IdBlock, Carried}
+use Rattle.igvm_headers.specs.declared.header.Header.TheVariants.{Page, Carried}
 use Rattle.component_list.specs.Components.{breaks_data_type, is_normal, is_unknown, tail_size}
 use Rattle.component_list.specs.Images.{tail_of}
 

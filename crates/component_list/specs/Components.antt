@@ -1,10 +1,10 @@
 -- What a component is: a header with file offset 0, the bytes that its record carries unread, and its data.
-use Rattle.std.specs.Prelude.{ℕ, List, length, ◌==◌, ◌&&◌, not, if◌then◌else◌, Bool, true, false}
+use Rattle.std.specs.Prelude.{ℕ, length, ◌==◌, ◌&&◌, not, if◌then◌else◌, Bool, true, false}
 use Rattle.igvm_headers.specs.Records.{is_carried}
 use Rattle.igvm_headers.specs.declared.page_kind.PageKind.{PageKind}
 use Rattle.igvm_headers.specs.declared.page_kind.PageKind.TheVariants.{Normal}
 use Rattle.igvm_headers.specs.declared.header.Header.{Header}
-use Rattle.igvm_headers.specs.declared.header.Header.TheVariants.{Platform, Policy, Area, Page, Insert, Param, Context, Required, ErrorRange, IdBlock, Carried}
+use Rattle.igvm_headers.specs.declared.header.Header.TheVariants.{Area, Page, Context, IdBlock, Carried}
 use Rattle.component_list.specs.declared.component.Component.{Component}
 use Rattle.component_list.specs.declared.component.Content.{Content}
 use Rattle.component_list.specs.declared.component.Content.TheVariants.{Nothing, Zero, Bytes}

@@ -1,5 +1,5 @@
 -- What a component list's JSON says, or its first refusal: docs/LIST.md has the forms in words.
-use Rattle.std.specs.Prelude.{ℕ, suc, ◌&&◌, ◌==◌, bytes_eq, nat_le, Bool, true, false, if◌then◌else◌, codes, List, [], ◌∷◌, find, replicate, is_some, ok_or, option_map, Option, Some, None, option_and_then, Result, Ok, Err}
+use Rattle.std.specs.Prelude.{ℕ, suc, ◌&&◌, bytes_eq, nat_le, false, if◌then◌else◌, codes, List, [], ◌∷◌, find, replicate, option_map, Option, Some, None, option_and_then, Result, Ok, Err}
 use Rattle.igvm_headers.specs.Names.{kind_text, page_kind_text, param_text}
 use Rattle.igvm_headers.specs.declared.header.Header.{Header}
 use Rattle.igvm_headers.specs.declared.header.Header.TheVariants as header
@@ -11,7 +11,7 @@ use Rattle.igvm_headers.specs.declared.platform_kind.PlatformKind.{PlatformKind}
 use Rattle.igvm_headers.specs.declared.platform_kind.PlatformKind.TheVariants.{Native, VsmIsolation, SevSnp, Tdx, Sev, SevEs}
 use Rattle.serde_json.specs.Data.{Data, Items, no_items, item}
 use Rattle.serde_json.specs.Events.{items_len}
-use Rattle.serde_json.specs.Find.{get, as_array, as_bool, as_str}
+use Rattle.serde_json.specs.Find.{as_array, as_bool, as_str}
 use Rattle.json_forms.specs.Forms.{address, byte, short, word, has_only, required, optional}
 use Rattle.json_forms.specs.Texts.{json_of}
 use Rattle.component_list.specs.declared.refusal.ListPart.{ListPart}

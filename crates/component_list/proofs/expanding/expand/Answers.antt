@@ -1,7 +1,6 @@
-use Rattle.std.proofs.Common.{◌∙◌, ap, length, sym, arith}
+use Rattle.std.proofs.Common.{ap, length, arith}
 use Rattle.component_list.proofs.Stepping.{starting, stepping, left_of, taken_of, found_of, front_of, file_cause, given_right, rule_right, short_all, short_more, told_at}
 use Rattle.component_list.proofs.Reached.{read_reached, rules_reached}
-use Rattle.component_list.specs.Expansion.{added}
 use Rattle.component_list.proofs.expanding.expand.Goals as goal
 
 pub add-requires-clause-few : goal.add-requires-clause-few

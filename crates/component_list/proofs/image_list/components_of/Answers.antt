@@ -1,4 +1,4 @@
-use Rattle.std.proofs.Common.{◌≡◌, ◌<◌, ◌^◌, ◌∙◌, length, List, ap, sym, subst}
+use Rattle.std.proofs.Common.{◌<◌, ◌^◌, length, List, subst}
 use Rattle.igvm_image.specs.Headers.{PlacedHeader, placed_headers}
 use Rattle.component_list.proofs.ImageLists.{listing_end}
 use Rattle.component_list.proofs.image_list.components_of.Goals as goal

@@ -1,6 +1,4 @@
-use Rattle.std.proofs.Common.{◌≡◌, ◌∙◌, ◌++◌, sym, ap, arith}
-use Rattle.std.specs.List.{flat_map, range_with_len}
-use Rattle.igvm_image.specs.Data.{data_page}
+use Rattle.std.proofs.Common.{arith}
 use Rattle.component_list.specs.Images.{data_bytes}
 use Rattle.component_list.proofs.ImageLists.{pages_more}
 use Rattle.component_list.proofs.image_list.data_bytes.Goals as goal
