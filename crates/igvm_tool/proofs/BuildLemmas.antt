@@ -1,20 +1,22 @@
--- Counts over several steps, and the cause of a fault of a list's files.
-use Rattle.std.proofs.Common.{◌≡◌, ◌≢◌, ◌∙◌, ℕ, ◌<◌, ◌≤◌, refl, sym, ap, subst, inl, inr, arith, List, [], length, true, false, Option, Some, None, Err, IfSome}
+-- Counts over several steps, the cause of a fault of a list's files, and what becomes of a list.
+use Rattle.std.proofs.Common.{◌≡◌, ◌≢◌, ◌∙◌, ℕ, ◌<◌, ◌≤◌, refl, sym, ap, subst, inl, inr, arith, List, [], length, true, false, Option, Some, None, Result, Ok, Err, IfSome, IfErr}
 use Rattle.std.specs.Prelude.{nat_lt, unwrap_or, if◌then◌else◌}
 use Rattle.std.specs.FinMap as map
 use Rattle.igvm_headers.specs.Causes.{Rose}
 use Rattle.igvm_outside.specs.Files.{Files, NeverFalls, content}
+use Rattle.component_list.specs.declared.component.Component.{Component}
 use Rattle.component_list.specs.Sources.{source_of}
 use Rattle.component_list.specs.declared.refusal.ListRefusal.{ListRefusal}
 use Rattle.igvm_tool.specs.declared.status.Status.TheVariants as is
 use Rattle.component_list.specs.declared.refusal.ListRefusal.TheVariants as reading
 use Rattle.igvm_tool.specs.declared.refusal.Refusal.{Refusal}
-use Rattle.igvm_tool.specs.declared.refusal.Refusal.TheVariants.{Memory, Limit}
+use Rattle.igvm_tool.specs.declared.refusal.Refusal.TheVariants.{Output, Memory, Limit}
 use Rattle.igvm_tool.specs.declared.refusal.LimitOf.TheVariants as of
+use Rattle.igvm_tool.specs.Words.{Build}
 use Rattle.igvm_tool.specs.Texts.{long_list_text}
-use Rattle.igvm_tool.specs.Outcome.{list_outcome, text_outcome, source_outcome, list_refused, refused, list_limit}
-use Rattle.igvm_tool.specs.Refusals.{Gives}
-use Rattle.igvm_tool.specs.Clauses.{IsNamedIn, IsNamed, NamedRose, ListRose}
+use Rattle.igvm_tool.specs.Outcome.{Outcome, outcome, list_outcome, text_outcome, source_outcome, parts_outcome, done_writing, list_refused, refused, list_limit}
+use Rattle.igvm_tool.specs.Refusals.{Gives, LeavesOutput}
+use Rattle.igvm_tool.specs.Clauses.{IsNamedIn, IsNamed, NamedRose, ListRose, IsFrontPut}
 
 -- a count that rose behind a step that never lowers it rose over both
 pub rose_behind : (a b c : ℕ) → a ≤ b → Rose b c → Rose a c
@@ -87,3 +89,30 @@ pub list_told : (told : Option Files) (bytes : List ℕ) (e : ListRefusal) (refu
 list_told None bytes e refusal h read gives memory = tt
 list_told (Some files) bytes e refusal h read gives memory =
     λ target. one_refused files target bytes e refusal h read gives memory
+
+-- what becomes of a list whose components make an image
+built_told : (told : Option Files) (list target : List ℕ) (parts : List Component) (image text : List ℕ)
+    → IfSome told (λ files. (target : List ℕ) → list_outcome files target (map.get files list) ≡ parts_outcome target parts)
+    → ((target : List ℕ) → parts_outcome target parts ≡ done_writing target image text)
+    → IfSome told (λ files. outcome (Some (Build list target)) files ≡ done_writing target image text)
+built_told None list target parts image text listed built = tt
+built_told (Some files) list target parts image text listed built = listed target ∙ built target
+
+front_told : (told : Option Files) (list target image text : List ℕ) (bytes bytes' : Option (List ℕ)) → IsFrontPut bytes bytes' text
+    → IfSome told (λ files. outcome (Some (Build list target)) files ≡ done_writing target image text)
+    → IfSome told (λ files. IsFrontPut bytes bytes' (outcome (Some (Build list target)) files).out)
+front_told None list target image text bytes bytes' front same = tt
+front_told (Some files) list target image text bytes bytes' front same =
+    subst (λ (x : Outcome). IsFrontPut bytes bytes' x.out) (sym same) front
+
+-- where the line of an image is broken off, the output has a front of the outcome's text
+pub line_broken_off : (end : Result Unit Refusal) (told : Option Files) (list target : List ℕ) (parts : List Component) (image text line : List ℕ) (bytes bytes' : Option (List ℕ))
+    → line ≡ text → IfErr end (λ r. r ≡ Output) → IfErr end (λ r. IsFrontPut bytes bytes' line)
+    → IfSome told (λ files. (target : List ℕ) → list_outcome files target (map.get files list) ≡ parts_outcome target parts)
+    → ((target : List ℕ) → parts_outcome target parts ≡ done_writing target image text)
+    → IfErr end (λ r. LeavesOutput r told (Some (Build list target)) bytes bytes')
+line_broken_off (Ok done) told list target parts image text line bytes bytes' same output front listed built = tt
+line_broken_off (Err r) told list target parts image text line bytes bytes' same output front listed built =
+    let front' : IsFrontPut bytes bytes' text = subst (IsFrontPut bytes bytes') same front in
+    subst (λ (r : Refusal). LeavesOutput r told (Some (Build list target)) bytes bytes') (sym output)
+    (front_told told list target image text bytes bytes' front' (built_told told list target parts image text listed built))

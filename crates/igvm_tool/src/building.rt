@@ -1,8 +1,9 @@
 //! `build LIST OUT`: the image of a component list.
-ghost use Rattle.std.specs.Prelude.{◌≡◌, ◌≢◌, ℕ, ◌≤◌, ◌⊎◌, List, length, Some, Ok, string_bytes, IfOk, IfErr, IfSome};
+ghost use Rattle.std.specs.Prelude.{◌≡◌, ◌≢◌, ℕ, ◌≤◌, ◌⊎◌, List, length, Some, Ok, string_bytes, IfOk, IfErr, IfSome, OnOk, OnErr};
 ghost use Rattle.std.specs.FinMap as map;
-ghost use Rattle.igvm_headers.specs.Causes.{Rose};
-ghost use Rattle.igvm_outside.specs.Files.{IsUnwritten, NeverFalls, with_file};
+ghost use Rattle.igvm_headers.specs.Causes.{Rose, HasCause};
+ghost use Rattle.igvm_outside.specs.Files.{Nothing, IsUnwritten, NeverFalls, with_file};
+ghost use Rattle.igvm_outside.specs.Pieces.{HoldsFront};
 ghost use Rattle.igvm_outside.specs.Outputs.{gained};
 ghost use Rattle.component_list.specs.Sources.{source_of};
 ghost use Rattle.component_list.specs.Expansion.{expand_of};
@@ -16,8 +17,9 @@ use crate::refusal::{LimitOf, Refusal, finish};
 use crate::status::Status;
 use crate::texts::{built_text, entry_text, field_text, not_json_text};
 use component_list::{ComponentList, ExpandRefusal, ListRefusal, ListSource, expand, read_list};
-use igvm_outside::{ReadRefusal, Shelf, Sink, put_all, read_all, write_file};
-use image_builder::BuildRefusal;
+use igvm_headers::Failed;
+use igvm_outside::{ReadRefusal, Shelf, Sink, put_all, read_all, write_pieces};
+use image_builder::{BuildRefusal, Image};
 use std::alloc::{AllocError, Global};
 
 /// The most bytes that the text of a component list may have.
@@ -80,16 +82,30 @@ fn build_file<S: Shelf, O: Sink>(
         (Some (Build list.now target.now))) }
     ensures unwritten { IsUnwritten (S.state shelf.new) }
 {
-    let image = built_image(alloc, list, shelf)?;
+    let parts = file_parts(alloc, list, shelf)?;
+    let image = build_parts(alloc, &parts)?;
     let line = built_line(alloc, image.len())?;
-    match write_file(shelf, target, image.as_slice()) {
+    match write_image(shelf, target, &image) {
         Ok(()) => put_line(out, &line),
         Err(_) => Err(Refusal::Shelf),
     }
 }
 
+/// Writes an image, its pieces from where they lie.
+fn write_image<S: Shelf>(shelf: &mut S, target: &str, image: &Image) -> Result<(), Failed>
+    ensures written { OnOk result (S.told shelf.new ≡ with_file (S.told shelf.old) target.now image.now) }
+    ensures front { OnErr result ((S.told shelf.new ≡ S.told shelf.old)
+        ⊎ HoldsFront (S.told shelf.old) (S.told shelf.new) target.now image.now) }
+    ensures closed { S.state shelf.new ≡ Nothing }
+    ensures cause { HasCause (S.write_faults shelf.old target.now) (S.write_faults shelf.new target.now) result }
+    ensures reads { NeverFalls (S.read_faults shelf.old) (S.read_faults shelf.new) }
+    ensures writes { NeverFalls (S.write_faults shelf.old) (S.write_faults shelf.new) }
+{
+    write_pieces(shelf, target, image.front(), image.contents())
+}
+
 /// The line that says how large an image is.
-fn built_line(alloc: Global, bytes: usize) -> Result<String, Refusal>
+fn built_line(alloc: Global, bytes: u64) -> Result<String, Refusal>
     ensures text { IfOk result (λ line. string_bytes line ≡ built_text bytes) }
     ensures memory { IfErr result (λ refusal. refusal ≡ Refusal.Memory) }
 {
@@ -112,11 +128,10 @@ fn put_line<O: Sink>(out: &mut O, line: &str) -> Result<(), Refusal>
     }
 }
 
-/// The image of a list's file, or why there is none.
-fn built_image<S: Shelf>(alloc: Global, list: &str, shelf: &mut S) -> Result<Vec<u8>, Refusal>
-    ensures built { IfOk result (λ image. IfSome (S.told shelf.old) (λ files. (target : List ℕ)
-        → list_outcome files target (map.get files list.now)
-        ≡ done_writing target image.items (built_text (length image.items)))) }
+/// The components of a list's file, or why there are none.
+fn file_parts<S: Shelf>(alloc: Global, list: &str, shelf: &mut S) -> Result<ComponentList, Refusal>
+    ensures parts { IfOk result (λ parts. IfSome (S.told shelf.old) (λ files. (target : List ℕ)
+        → list_outcome files target (map.get files list.now) ≡ parts_outcome target parts)) }
     ensures refused { IfErr result (λ refusal. IfSome (S.told shelf.old) (λ files. (target : List ℕ)
         → Gives refusal (list_outcome files target (map.get files list.now)))) }
     ensures text { IfErr result HasText }
@@ -129,29 +144,7 @@ fn built_image<S: Shelf>(alloc: Global, list: &str, shelf: &mut S) -> Result<Vec
     ensures unwritten { IsUnwritten (S.state shelf.new) }
 {
     let text = read_text(alloc, list, shelf)?;
-    text_image(alloc, text.as_slice(), shelf)
-}
-
-/// The image of a list's text, or why there is none.
-fn text_image<S: Shelf>(alloc: Global, bytes: &[u8], shelf: &mut S) -> Result<Vec<u8>, Refusal>
-    requires size { length bytes.now ≤ list_limit }
-    requires closed { IsUnwritten (S.state shelf.old) }
-    ensures built { IfOk result (λ image. IfSome (S.told shelf.old) (λ files. (target : List ℕ)
-        → text_outcome files target bytes.now
-        ≡ done_writing target image.items (built_text (length image.items)))) }
-    ensures refused { IfErr result (λ refusal. IfSome (S.told shelf.old) (λ files. (target : List ℕ)
-        → Gives refusal (text_outcome files target bytes.now))) }
-    ensures text { IfErr result HasText }
-    ensures cause { (list target : List ℕ) → IfErr result (λ refusal. HasCauseIn (Some (Build list target)) refusal
-        (NamedRose (S.told shelf.old) (source_of bytes.now) (S.read_faults shelf.old) (S.read_faults shelf.new))
-        ⊥ (S.given shelf.new)) }
-    ensures kept { S.told shelf.new ≡ S.told shelf.old }
-    ensures reads { NeverFalls (S.read_faults shelf.old) (S.read_faults shelf.new) }
-    ensures writes { NeverFalls (S.write_faults shelf.old) (S.write_faults shelf.new) }
-    ensures unwritten { IsUnwritten (S.state shelf.new) }
-{
-    let parts = list_parts(alloc, bytes, shelf)?;
-    build_parts(alloc, &parts)
+    list_parts(alloc, text.as_slice(), shelf)
 }
 
 /// The text of a list's file, or why there is none.
@@ -273,13 +266,13 @@ fn line_refusal(line: Result<String, AllocError>) -> Refusal
 
 /// The image of a list's components, or why there is none.
 #[tactic(auto, unfolding(crate::specs::Outcome::parts_outcome))]
-fn build_parts(alloc: Global, parts: &ComponentList) -> Result<Vec<u8>, Refusal>
+fn build_parts<'a>(alloc: Global, parts: &'a ComponentList) -> Result<Image<'a>, Refusal>
     ensures built { IfOk result (λ image. (target : List ℕ) → parts_outcome target parts.now
-        ≡ done_writing target image.items (built_text (length image.items))) }
+        ≡ done_writing target image (built_text (length image))) }
     ensures refused { IfErr result (λ refusal. (target : List ℕ) → Gives refusal (parts_outcome target parts.now)) }
     ensures which { IfErr result (λ refusal. (refusal ≡ Refusal.Memory) ⊎ (refusal ≡ Refusal.Limit LimitOf.Image)) }
 {
-    match image_builder::build(alloc, parts) {
+    match Image::of(alloc, parts) {
         Ok(image) => Ok(image),
         Err(BuildRefusal::TooLarge { .. }) => Err(Refusal::Limit(LimitOf::Image)),
         Err(BuildRefusal::Memory) => Err(Refusal::Memory),

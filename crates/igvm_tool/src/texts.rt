@@ -131,7 +131,7 @@ pub fn entry_text(
 }
 
 /// The line that says how many bytes were written.
-pub fn built_text(alloc: Global, bytes: usize) -> Result<String, AllocError>
+pub fn built_text(alloc: Global, bytes: u64) -> Result<String, AllocError>
     ensures { IfOk result (λ text. string_bytes text ≡ built_text bytes) }
 {
     format!(in alloc; "built {bytes} bytes\n")
