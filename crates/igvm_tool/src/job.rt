@@ -60,10 +60,8 @@ fn measure_job<'a>(command: &str, file: &'a str, option: &str, platform: &str) -
     if !(is_text(command, "measure") && is_file_name(file) && is_text(option, "--platform")) {
         return None;
     }
-    match wanted_of(platform) {
-        Some(wanted) => Some(Job::Measure { file, wanted }),
-        None => None,
-    }
+    let wanted = wanted_of(platform)?;
+    Some(Job::Measure { file, wanted })
 }
 
 /// A file's name is not empty and does not begin with `-`.

@@ -29,10 +29,7 @@ pub fn wanted_of(word: &str) -> Option<Wanted>
     if is_text(word, "tdx") {
         return Some(Wanted::First(PlatformKind::Tdx));
     }
-    match number_of(word) {
-        Some(number) => Some(Wanted::Numbered(number)),
-        None => None,
-    }
+    number_of(word).map(|number| Wanted::Numbered(number))
 }
 
 /// The number that a word is.
