@@ -8,7 +8,7 @@ use Rattle.igvm_tool.specs.declared.refusal.Refusal.TheVariants.{File, Shelf, Ou
 use Rattle.igvm_tool.specs.Words.{Job}
 use Rattle.igvm_tool.specs.Outcome.{Outcome, outcome, refused}
 use Rattle.igvm_tool.specs.Refusals.{status_of, text_of, Gives, HasText, HasCauseIn, end_status, EndIsPut}
-use Rattle.igvm_tool.specs.Clauses.{ErrorTextIsPut}
+use Rattle.igvm_tool.specs.Clauses.{ErrorTextIsPut, FaultsHaveCauses}
 
 put_outcome : (told : Option Files) (job : Option Job) (text : List ℕ) (status : Status) (put : List ℕ → Type 0)
     → IfSome told (λ files. outcome job files ≡ refused status text) → put text → IfSome told (λ files. put (outcome job files).err)
@@ -21,7 +21,7 @@ error_one : (r : Refusal) (told : Option Files) (given : ℕ) (job : Option Job)
 error_one (File text) told given job put kept shelf_rose out_rose gives form cause there =
     ((_, form, there), put_outcome told job _ is.File put gives there)
 error_one Shelf told given job put kept shelf_rose out_rose gives form cause there = inl (cause, there)
-error_one Output told given job put kept shelf_rose out_rose gives form cause there = inr (cause, there)
+error_one Output told given job put kept shelf_rose out_rose gives form cause there = inr (cause, gives, there)
 error_one Memory told given job put kept shelf_rose out_rose gives form cause there = there
 error_one (Platform text) told given job put kept shelf_rose out_rose gives form cause there =
     ((_, form, there), put_outcome told job _ is.Platform put gives there)
@@ -61,3 +61,26 @@ pub cause_wide : {T : Type 0} (end : Result T Refusal) (job : Option Job) (a b o
     → IfErr end (λ r. HasCauseIn job r a out_rose given) → IfErr end (λ r. HasCauseIn job r b out_rose given)
 cause_wide (Ok x) job a b out_rose given wide cause = tt
 cause_wide (Err r) job a b out_rose given wide cause = cause_one r job a b out_rose given wide cause
+
+fault_one : (r : Refusal) (told : Option Files) (given : ℕ) (job : Option Job) (shelf_rose out_rose : Type 0)
+    → IfSome told (λ files. Gives r (outcome job files)) → HasCauseIn job r shelf_rose out_rose given → FaultsHaveCauses told job (status_of r) shelf_rose out_rose
+fault_one (File text) told given job shelf_rose out_rose gives cause = λ same. cc
+fault_one Shelf told given job shelf_rose out_rose gives cause = λ same. inl cause
+fault_one Output told given job shelf_rose out_rose gives cause = λ same. inr (cause, gives)
+fault_one Memory told given job shelf_rose out_rose gives cause = λ same. cc
+fault_one (Platform text) told given job shelf_rose out_rose gives cause = λ same. cc
+fault_one (Json text) told given job shelf_rose out_rose gives cause = λ same. cc
+fault_one (Limit limit) told given job shelf_rose out_rose gives cause = λ same. cc
+
+fault_end : (end : Result Unit Refusal) (told : Option Files) (given : ℕ) (job : Option Job) (shelf_rose out_rose : Type 0)
+    → IfErr end (λ r. IfSome told (λ files. Gives r (outcome job files))) → IfErr end (λ r. HasCauseIn job r shelf_rose out_rose given)
+    → FaultsHaveCauses told job (end_status end) shelf_rose out_rose
+fault_end (Ok u) told given job shelf_rose out_rose gives cause = λ same. cc
+fault_end (Err r) told given job shelf_rose out_rose gives cause = fault_one r told given job shelf_rose out_rose gives cause
+
+-- the cause of a fault of the outside
+pub fault_ended : (end : Result Unit Refusal) (told : Option Files) (given : ℕ) (job : Option Job) (status : Status) (shelf_rose out_rose : Type 0)
+    → IfErr end (λ r. IfSome told (λ files. Gives r (outcome job files))) → IfErr end (λ r. HasCauseIn job r shelf_rose out_rose given)
+    → status ≡ end_status end → FaultsHaveCauses told job status shelf_rose out_rose
+fault_ended end told given job status shelf_rose out_rose gives cause same =
+    subst (λ (s : Status). FaultsHaveCauses told job s shelf_rose out_rose) (sym same) (fault_end end told given job shelf_rose out_rose gives cause)

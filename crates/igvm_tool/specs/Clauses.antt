@@ -98,14 +98,18 @@ IsLimitText (Some (Measure file wanted)) given text = (text ≡ long_file_text) 
 abbrev pub IsToldBy : (List ℕ → Type 0) → Option Files → Option Job → (List ℕ → Type 0) → Type 0
 IsToldBy form told job put = ((text : List ℕ) × form text × put text) × IfSome told (λ files. put (outcome job files).err)
 
+-- where the files are told, the job would be done if the outside held
+abbrev pub IsDoable : Option Files → Option Job → Type 0
+IsDoable told job = IfSome told (λ files. (outcome job files).status ≡ is.Done)
+
 -- The error output has gained the one text of the status, in full where its own count did not rise. A fault of the
--- outside names the shelf or the output, whose count rose.
+-- outside names the shelf, or the output of a job that would be done; the count of what it names rose.
 abbrev pub ErrorTextIsPut : Option Files → ℕ → Option Job → Status → (List ℕ → Type 0) → Type 0 → Type 0 → Type 0 → Type 0
 ErrorTextIsPut told given job is.Done put kept shelf_rose out_rose = kept
 ErrorTextIsPut told given job is.File put kept shelf_rose out_rose = IsToldBy IsFaultText told job put
 ErrorTextIsPut told given job is.Usage put kept shelf_rose out_rose = put usage_text
 ErrorTextIsPut told given job is.Outside put kept shelf_rose out_rose =
-    (shelf_rose × put shelf_text) ⊎ (out_rose × put output_text)
+    (shelf_rose × put shelf_text) ⊎ (out_rose × IsDoable told job × put output_text)
 ErrorTextIsPut told given job is.Memory put kept shelf_rose out_rose = put memory_text
 ErrorTextIsPut told given job is.Platform put kept shelf_rose out_rose = IsToldBy IsPlatformText told job put
 ErrorTextIsPut told given job is.Limit put kept shelf_rose out_rose = IsToldBy (IsLimitText job given) told job put
@@ -160,14 +164,16 @@ abbrev pub ListRose : Option Files → List ℕ → (List ℕ → ℕ) → (List
 ListRose told list reads reads' =
     Rose (reads list) (reads' list) ⊎ ((name : List ℕ) × IsNamed told list name × Rose (reads name) (reads' name))
 
--- the count of a name rose that the job opens for reading, or for writing
+-- the count of a name rose that the job opens for reading, or for writing where it would be done
 abbrev pub ShelfRose : Option Files → Option Job → (List ℕ → ℕ) → (List ℕ → ℕ) → (List ℕ → ℕ) → (List ℕ → ℕ) → Type 0
 ShelfRose told None reads reads' writes writes' = ⊥
 ShelfRose told (Some (Build list target)) reads reads' writes writes' =
-    ListRose told list reads reads' ⊎ Rose (writes target) (writes' target)
+    ListRose told list reads reads' ⊎ (Rose (writes target) (writes' target) × IsDoable told (Some (Build list target)))
 ShelfRose told (Some (Print file)) reads reads' writes writes' = Rose (reads file) (reads' file)
 ShelfRose told (Some (Measure file wanted)) reads reads' writes writes' = Rose (reads file) (reads' file)
 
--- a fault of the outside is answered only where the count of the output rose, or that of a name that the job opens
-abbrev pub FaultsHaveCauses : Option Job → Status → Type 0 → Type 0 → Type 0
-FaultsHaveCauses job status shelf_rose out_rose = status ≡ is.Outside → shelf_rose ⊎ out_rose
+-- A fault of the outside is answered only where the count rose of a name that the job opens, or that of the output,
+-- for a job that would be done.
+abbrev pub FaultsHaveCauses : Option Files → Option Job → Status → Type 0 → Type 0 → Type 0
+FaultsHaveCauses told job status shelf_rose out_rose =
+    status ≡ is.Outside → shelf_rose ⊎ (out_rose × IsDoable told job)

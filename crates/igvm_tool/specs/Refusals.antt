@@ -46,10 +46,11 @@ HasText (Platform text) = IsPlatformText (string_bytes text)
 HasText (Json text) = IsJsonText (string_bytes text)
 HasText _ = Unit {0}
 
--- What a refusal gives is the outcome, but that a fault of the outside and want of memory come in its place.
+-- What a refusal gives is the outcome, but that a fault of the outside and want of memory come in its place; the output
+-- can fail only where something is put.
 abbrev pub Gives : Refusal → Outcome → Type 0
 Gives Shelf outcome = Unit {0}
-Gives Output outcome = Unit {0}
+Gives Output outcome = outcome.status ≡ is.Done
 Gives Memory outcome = Unit {0}
 Gives refusal outcome = outcome ≡ refused (status_of refusal) (text_of refusal)
 

@@ -46,7 +46,7 @@ pub fn build<S: Shelf, O: Sink, E: Sink>(
         (Rose (O.faults out.old) (O.faults out.new)) }
     ensures files { FilesAreKept (S.told shelf.old) (S.told shelf.new) (Some (Build list.now target.now)) result
         (S.state shelf.old) (S.state shelf.new) }
-    ensures faults { FaultsHaveCauses (Some (Build list.now target.now)) result
+    ensures faults { FaultsHaveCauses (S.told shelf.old) (Some (Build list.now target.now)) result
         (ShelfRose (S.told shelf.old) (Some (Build list.now target.now)) (S.read_faults shelf.old)
         (S.read_faults shelf.new) (S.write_faults shelf.old) (S.write_faults shelf.new))
         (Rose (O.faults out.old) (O.faults out.new)) }

@@ -45,7 +45,7 @@ pub fn measure<S: Shelf, O: Sink, E: Sink>(
         (Rose (O.faults out.old) (O.faults out.new)) }
     ensures files { FilesAreKept (S.told shelf.old) (S.told shelf.new) (Some (Measure file.now (wanted_view wanted))) result
         (S.state shelf.old) (S.state shelf.new) }
-    ensures faults { FaultsHaveCauses (Some (Measure file.now (wanted_view wanted))) result
+    ensures faults { FaultsHaveCauses (S.told shelf.old) (Some (Measure file.now (wanted_view wanted))) result
         (ShelfRose (S.told shelf.old) (Some (Measure file.now (wanted_view wanted))) (S.read_faults shelf.old)
         (S.read_faults shelf.new) (S.write_faults shelf.old) (S.write_faults shelf.new))
         (Rose (O.faults out.old) (O.faults out.new)) }

@@ -36,7 +36,7 @@ pub fn print<S: Shelf, O: Sink, E: Sink>(
         (Rose (O.faults out.old) (O.faults out.new)) }
     ensures files { FilesAreKept (S.told shelf.old) (S.told shelf.new) (Some (Print file.now)) result
         (S.state shelf.old) (S.state shelf.new) }
-    ensures faults { FaultsHaveCauses (Some (Print file.now)) result
+    ensures faults { FaultsHaveCauses (S.told shelf.old) (Some (Print file.now)) result
         (ShelfRose (S.told shelf.old) (Some (Print file.now)) (S.read_faults shelf.old)
         (S.read_faults shelf.new) (S.write_faults shelf.old) (S.write_faults shelf.new))
         (Rose (O.faults out.old) (O.faults out.new)) }
@@ -78,6 +78,7 @@ fn list_image<O: Sink>(view: &ImageView<'_>, out: &mut O) -> Result<(), Refusal>
     ensures done { IfOk result (λ _. (deed_outcome Listed view.now ≡ done (deed_outcome Listed view.now).out)
         × (O.bytes out.new ≡ gained (O.bytes out.old) (deed_outcome Listed view.now).out)) }
     ensures refused { IfErr result (λ refusal. refusal ≡ Refusal.Output) }
+    ensures doable { (deed_outcome Listed view.now).status ≡ Status.Done }
     ensures cause { IfErr result (λ _. Rose (O.faults out.old) (O.faults out.new)) }
     ensures front { IfErr result (λ _. IsFrontPut (O.bytes out.old) (O.bytes out.new) (deed_outcome Listed view.now).out) }
 {

@@ -35,7 +35,7 @@ pub fn run<S: Shelf, O: Sink, E: Sink>(
         (Rose (O.faults out.old) (O.faults out.new)) }
     ensures files { FilesAreKept (S.told shelf.old) (S.told shelf.new) (job_of words.now) result
         (S.state shelf.old) (S.state shelf.new) }
-    ensures faults { FaultsHaveCauses (job_of words.now) result
+    ensures faults { FaultsHaveCauses (S.told shelf.old) (job_of words.now) result
         (ShelfRose (S.told shelf.old) (job_of words.now) (S.read_faults shelf.old)
         (S.read_faults shelf.new) (S.write_faults shelf.old) (S.write_faults shelf.new))
         (Rose (O.faults out.old) (O.faults out.new)) }
