@@ -53,7 +53,8 @@ def report(name, program, folder, pages, distinct, times):
     with open(text, encoding="ascii") as line:
         if line.read() != f"built {want} bytes\n" or os.path.getsize(image) != want:
             sys.exit(f"{name}: the image hasn't {want} bytes")
-    ours, cp, cat = best([(words, text), (["cp", names, copy], text), (["cat", names], os.devnull)], times)
+    commands = [(words, text), (["cp", names, copy], text), (["cat", names], os.devnull)]
+    ours, cp, cat = best(commands, times, (image, copy))
     size = PAGE * pages
     print(f"{name}: {pages:,} pages, {size / 1e6:.1f} MB, image of {want / 1e6:.1f} MB")
     print(f"  igvm build  {ours:8.3f} s  {size / ours / 1e6:8.1f} MB/s  peak memory: {memory(words, size)}")

@@ -49,11 +49,21 @@ def run(words, output=os.devnull):
     return done.stderr
 
 
-def best(commands, times):
-    """The least seconds of each (words, output), run in turn so that all see the same machine."""
+def remove(path):
+    if os.path.exists(path):
+        os.remove(path)
+
+
+def best(commands, times, made=()):
+    """The least seconds of each (words, output), run in turn so that all see the same machine.
+
+    The files `made` are removed before each run: to empty a file costs, and none is to pay for what another left.
+    """
     least = [float("inf")] * len(commands)
     for _ in range(times):
         for at, (words, output) in enumerate(commands):
+            for path in made:
+                remove(path)
             start = time.perf_counter()
             run(words, output)
             least[at] = min(least[at], time.perf_counter() - start)
