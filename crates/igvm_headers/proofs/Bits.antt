@@ -1,6 +1,7 @@
 -- The least set bit, from the low end.
 use Rattle.std.proofs.Common.{◌≡◌, ℕ, suc, ◌+◌, ◌-◌, ◌<◌, ◌≤◌, true, false, Some, None, refl, arith, add-one}
-use Rattle.igvm_headers.specs.Records.{least_set, is_set}
+use Rattle.igvm_headers.specs.Records.Page.{least_set}
+use Rattle.igvm_headers.specs.Records.Fields.{is_set}
 
 -- the bit itself is set
 pub least_set_here : (n bit flags : ℕ) → bit < n → is_set bit flags ≡ true → least_set (n - bit) bit flags ≡ Some bit

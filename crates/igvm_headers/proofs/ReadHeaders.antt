@@ -1,13 +1,23 @@
 -- A header that is read can be spelled, and its spelling has the type that was read.
 use Rattle.std.proofs.Common.{◌≡◌, ℕ, ◌^◌, ◌<◌, List, length, true, false, cond, Ok, Option, Some, None, refl, sym, ap, subst, ◌∙◌}
-use Rattle.std.specs.Prelude.{◌==◌}
+use Rattle.std.specs.Prelude.{◌==◌, find, [], ◌∷◌, Bool}
 use Rattle.std.proofs.lemmas.Bool.{eqb-true}
-use Rattle.igvm_headers.specs.Records.{header_form, param_or_carried, param_kind_of}
-use Rattle.igvm_headers.specs.Spelling.{param_type}
+use Rattle.igvm_headers.specs.HeaderForm.{header_form, param_or_carried}
+use Rattle.igvm_headers.specs.ParamKinds.{param_kind_of, param_kinds, param_type}
 use Rattle.igvm_headers.specs.declared.param_kind.ParamKind.{ParamKind}
-use Rattle.igvm_headers.specs.declared.param_kind.ParamKind.TheVariants as param
 use Rattle.igvm_headers.specs.declared.header.Header.{Header}
-use Rattle.igvm_headers.proofs.ReadRecords.{AreBytes, Reads, platform_read, policy_read, area_read, page_read, insert_read, param_read, context_read, required_read, error_range_read, id_block_read, carried_read}
+use Rattle.igvm_headers.proofs.RecordFields.{AreBytes, Reads}
+use Rattle.igvm_headers.proofs.PlatformRecord.{platform_read}
+use Rattle.igvm_headers.proofs.PageRecord.{page_read}
+use Rattle.igvm_headers.proofs.IdBlockRecord.{id_block_read}
+use Rattle.igvm_headers.proofs.CarriedRecord.{carried_read}
+use Rattle.igvm_headers.proofs.PolicyRecord.{policy_read}
+use Rattle.igvm_headers.proofs.AreaRecord.{area_read}
+use Rattle.igvm_headers.proofs.InsertRecord.{insert_read}
+use Rattle.igvm_headers.proofs.ContextRecord.{context_read}
+use Rattle.igvm_headers.proofs.RequiredRecord.{required_read}
+use Rattle.igvm_headers.proofs.ErrorRangeRecord.{error_range_read}
+use Rattle.igvm_headers.proofs.ParamRecord.{param_read}
 
 -- a choice by the type: this one, or one of those behind
 by_type : {A : Type 0} (kind other : ℕ) (here there goal : A) (P : Type 0) → (kind ≡ other → here ≡ goal → P) → (there ≡ goal → P) → cond (kind == other) here there ≡ goal → P
@@ -15,30 +25,18 @@ by_type kind other here there goal P this others =
     elim (kind == other) as (λ b. (kind == other) ≡ b → cond b here there ≡ goal → P)
     [ true ↦ λ same e. this (eqb-true kind other same) e | false ↦ λ _ e. others e ] refl
 
-some : ParamKind → Option ParamKind
-some kind = Some kind
-
-some_is : (x y : ParamKind) → some x ≡ some y → x ≡ y
-unfolding some
-some_is x y e = cc
+-- what is found passes the test
+found_passes : (test : ParamKind → Bool) (kinds : List ParamKind) (p : ParamKind) → find test kinds ≡ Some p → test p ≡ true
+found_passes test [] p found = absurd cc
+found_passes test (k ∷ kinds) p found = choice (test k) refl found (found_passes test kinds p)
+  where
+    choice : (b : Bool) → test k ≡ b → cond b (Some k) (find test kinds) ≡ Some p → (find test kinds ≡ Some p → test p ≡ true) → test p ≡ true
+    choice true is found others = let same : k ≡ p = cc in ap test (sym same) ∙ is
+    choice false is found others = others found
 
 -- the type of a parameter's header is the one that it was read from
 param_kind-type : (kind : ℕ) (p : ParamKind) → param_kind_of kind ≡ Some p → param_type p ≡ kind
-unfolding some
-param_kind-type kind p =
-    let found : (n : ℕ) (q : ParamKind) → param_type q ≡ n → kind ≡ n → some q ≡ some p → param_type p ≡ kind =
-    λ n q type same e. ap param_type (sym (some_is q p e)) ∙ type ∙ sym same in
-    let P = param_type p ≡ kind in
-    by_type kind 0x307 _ _ (Some p) P (found 0x307 param.VpCount refl)
-    (by_type kind 0x308 _ _ (Some p) P (found 0x308 param.Srat refl)
-    (by_type kind 0x309 _ _ (Some p) P (found 0x309 param.Madt refl)
-    (by_type kind 0x30A _ _ (Some p) P (found 0x30A param.MmioRanges refl)
-    (by_type kind 0x30C _ _ (Some p) P (found 0x30C param.MemoryMap refl)
-    (by_type kind 0x30E _ _ (Some p) P (found 0x30E param.CommandLine refl)
-    (by_type kind 0x30F _ _ (Some p) P (found 0x30F param.Slit refl)
-    (by_type kind 0x310 _ _ (Some p) P (found 0x310 param.Pptt refl)
-    (by_type kind 0x312 _ _ (Some p) P (found 0x312 param.DeviceTree refl)
-    (by_type kind 0x313 _ None (Some p) P (found 0x313 param.EnvironmentInfo refl) (λ e. absurd cc))))))))))
+param_kind-type kind p found = eqb-true (param_type p) kind (found_passes (λ k. param_type k == kind) param_kinds p found)
 
 param_or_carried_read : (kind : ℕ) (content : List ℕ) (found : Option ParamKind) (h : Header) → kind < 2 ^ 32 → length content < 2 ^ 32 → AreBytes content
     → param_kind_of kind ≡ found → param_or_carried kind content found ≡ Ok h → Reads kind content h

@@ -5,8 +5,20 @@ use Rattle.std.proofs.Math.Seq.{take-append_seam, drop-append_seam}
 use Rattle.byteorder.specs.Endian.{little_bytes}
 use Rattle.byteorder.specs.Numbers.{little_number-reads_back}
 use Rattle.igvm_headers.specs.Numbers.{number_at, slice}
-use Rattle.igvm_headers.specs.Spelling.{param_type, header_type, header_fields, header_content, padding_size, piece_bytes, spelled}
-use Rattle.igvm_headers.specs.Spellable.{NumbersFit, IsSpellable, tail_size, content_size}
+use Rattle.igvm_headers.specs.Records.Platform.{platform_fields}
+use Rattle.igvm_headers.specs.Records.Policy.{policy_fields}
+use Rattle.igvm_headers.specs.Records.Area.{area_fields}
+use Rattle.igvm_headers.specs.Records.Page.{page_fields}
+use Rattle.igvm_headers.specs.Records.Insert.{insert_fields}
+use Rattle.igvm_headers.specs.Records.Param.{param_fields}
+use Rattle.igvm_headers.specs.Records.Context.{context_fields}
+use Rattle.igvm_headers.specs.Records.Required.{required_fields}
+use Rattle.igvm_headers.specs.Records.ErrorRange.{error_range_fields}
+use Rattle.igvm_headers.specs.Records.IdBlock.{id_block_fields}
+use Rattle.igvm_headers.specs.Spelling.{header_fields, header_content, padding_size, piece_bytes, spelled}
+use Rattle.igvm_headers.specs.ParamKinds.{param_type}
+use Rattle.igvm_headers.specs.HeaderFacts.{header_type, tail_size, content_size}
+use Rattle.igvm_headers.specs.SpellingConditions.{NumbersFit, IsSpellable}
 use Rattle.igvm_headers.specs.declared.param_kind.ParamKind.{ParamKind}
 use Rattle.igvm_headers.specs.declared.param_kind.ParamKind.TheVariants as param
 use Rattle.igvm_headers.specs.declared.header.Header.{Header}
@@ -59,8 +71,8 @@ content_size-fits (ErrorRange gpa mask bytes) fit = lit< tt
 content_size-fits (IdBlock mask author_enabled ld family_id image_id version guest_svn id_algorithm author_algorithm) fit = lit< tt
 
 -- fields and tail together are as many as the record has
-fields_size : (h : Header) → NumbersFit h → length (header_fields h) + tail_size h ≡ content_size h
-unfolding header_fields
+pub fields_size : (h : Header) → NumbersFit h → length (header_fields h) + tail_size h ≡ content_size h
+unfolding header_fields platform_fields policy_fields area_fields page_fields insert_fields param_fields context_fields required_fields error_range_fields id_block_fields
 fields_size (Carried kind size) fit = omega arith
 fields_size (Platform mask highest_vtl kind version shared_gpa) fit = refl
 fields_size (Policy policy mask) fit = refl
@@ -73,6 +85,19 @@ fields_size (Required gpa mask bytes flags) fit = refl
 fields_size (ErrorRange gpa mask bytes) fit = refl
 fields_size (IdBlock mask author_enabled ld family_id image_id version guest_svn id_algorithm author_algorithm) fit =
     simp length-append (omega (arith, fit.2, fit.3, fit.4))
+
+whole_length : (front content zeros : List ℕ) → length front ≡ 8 → length (front ++ content ++ zeros) ≡ 8 + length content + length zeros
+whole_length front content zeros size = omega (arith, size, length-append front content, length-append (front ++ content) zeros)
+
+-- the room that a header takes, by the length of its content
+pub spelled_room : (h : Header) (tail : List ℕ) (n : ℕ) → length (header_content h tail) ≡ n → length (spelled h tail) ≡ 8 + n + padding_size n
+unfolding spelled
+spelled_room h tail n size =
+    let content = header_content h tail in
+    let zeros = replicate (padding_size (length content)) 0 in
+    whole_length (little_bytes 4 (header_type h) ++ little_bytes 4 (length content)) content zeros refl
+    ∙ ap (λ (k : ℕ). 8 + length content + k) (length-replicate (padding_size (length content)) 0)
+    ∙ ap (λ (k : ℕ). 8 + k + padding_size k) size
 
 pub content_length : (h : Header) (tail : List ℕ) → IsSpellable h tail → length (header_content h tail) ≡ content_size h
 content_length h tail is = length-append (header_fields h) tail ∙ ap (λ (n : ℕ). length (header_fields h) + n) is.tail_fits ∙ fields_size h is.numbers
@@ -122,9 +147,6 @@ behind_content : (front content zeros : List ℕ) → length front ≡ 8 → dro
 behind_content front content zeros size =
     let place : 8 + length content ≡ length (front ++ content) = omega (arith, size, length-append front content) in
     ap (λ (m : ℕ). drop m (front ++ content ++ zeros)) place ∙ drop-append_seam (front ++ content) zeros
-
-whole_length : (front content zeros : List ℕ) → length front ≡ 8 → length (front ++ content ++ zeros) ≡ 8 + length content + length zeros
-whole_length front content zeros size = omega (arith, size, length-append front content, length-append (front ++ content) zeros)
 
 pub piece_padding : (h : Header) (tail : List ℕ) → drop (8 + length (header_content h tail)) (spelled h tail) ≡ replicate (padding_size (length (header_content h tail))) 0
 unfolding spelled

@@ -1,6 +1,14 @@
--- Pages of 4,096 bytes, and the pages of the data at a file offset.
-use Rattle.std.specs.Prelude.{ℕ, ◌+◌, ◌-◌, ◌*◌, List, ◌++◌, length, take, replicate, if◌then◌else◌, ◌==◌}
+-- Pages of 4,096 bytes and of 2 MB, and the pages of the data at a file offset.
+use Rattle.std.specs.Prelude.{ℕ, ◌+◌, ◌-◌, ◌*◌, List, ◌++◌, length, take, replicate, Bool, if◌then◌else◌, ◌==◌}
 use Rattle.igvm_headers.specs.Numbers.{number_at, slice}
+
+-- the size in bytes of a page, large or not
+abbrev pub page_bytes : Bool → ℕ
+page_bytes large = if large then 2097152 else 4096
+
+-- how many pages of 4,096 bytes it is
+abbrev pub small_pages : Bool → ℕ
+small_pages large = if large then 512 else 1
 
 -- these bytes, followed by zeros up to a page's size
 unfoldable pub padded_page : List ℕ → List ℕ
@@ -14,7 +22,3 @@ file_body file = take (number_at 4 16 file) file
 unfoldable pub body_page : List ℕ → ℕ → ℕ → List ℕ
 body_page body offset k =
     if offset == 0 then replicate 4096 0 else padded_page (slice body (offset + 4096 * k) 4096)
-
--- page k of the data at a file offset
-abbrev pub file_page : List ℕ → ℕ → ℕ → List ℕ
-file_page file offset k = body_page (file_body file) offset k

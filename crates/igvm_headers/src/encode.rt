@@ -1,10 +1,14 @@
 //! One variable header as bytes (`igvm_defs`, IGVM_VHS_VARIABLE_HEADER).
 ghost use Rattle.std.specs.Prelude.{◌≡◌, ◌≤◌, ◌<◌, ◌+◌, ◌++◌, length, OnOk, OnErr, vec_len, vec_capacity};
-ghost use Rattle.igvm_headers.specs.Spelling.{header_type, padding_size, spelled};
-ghost use Rattle.igvm_headers.specs.Spellable.{TailFits, LargeIsNormal, KindIsCarried, content_size as written_size};
+ghost use Rattle.igvm_headers.specs.HeaderFacts.{content_size, tail_size};
+ghost use Rattle.igvm_headers.specs.Spelling.{header_fields, padding_size, spelled};
+ghost use Rattle.igvm_headers.specs.SpellingConditions.{TailFits, LargeIsNormal, KindIsCarried};
 
-use crate::param_kind::param_header_type;
-use crate::records::fields_of;
+use crate::fields::{append, append_u32};
+use crate::laws::numbers_fit;
+use crate::records::{
+    area, context, error_range, id_block, insert, page, param, platform, policy, required,
+};
 use crate::{Header, Memory};
 
 /// Appends a header, with zeros in reserved fields and up to a multiple of 8. The tail is what the
@@ -21,70 +25,103 @@ pub fn encode_header(h: &Header, tail: &[u8], out: &mut Vec<u8>) -> Result<(), M
     ensures full { OnErr result
         (vec_capacity out.old < vec_len out.old + length (spelled h.now tail.now)) }
 {
-    let fields = fields_of(h);
-    let length = content_size(h);
+    // A law: nothing runs.
+    numbers_fit(*h);
+    let length = h.content_size();
     let padding = padding_of(length);
-    if out.reserve(8 + length as usize + padding).is_err() {
-        return Err(Memory);
-    }
-    append(out, &type_of(h).to_le_bytes());
-    append(out, &length.to_le_bytes());
-    append(out, fields.bytes());
+    out.reserve(8 + length as usize + padding)?;
+    append_u32(out, h.header_type());
+    append_u32(out, length);
+    append_fields(h, out);
     append(out, tail);
     append(out, &[0; 7][..padding]);
     Ok(())
 }
 
-// The header's type.
-fn type_of(h: &Header) -> u32
-    ensures { result ≡ header_type h.now }
+/// Appends the header's fields, with zeros where they are reserved.
+#[tactic(auto, unfolding(crate::specs::Spelling::header_fields))]
+fn append_fields(h: &Header, out: &mut Vec<u8>)
+    requires room { vec_len out.old + content_size h.now ≤ vec_capacity out.old + tail_size h.now }
+    ensures items { out.new.items ≡ out.old.items ++ header_fields h.now }
+    ensures len { vec_len out.new + tail_size h.now ≡ vec_len out.old + content_size h.now }
+    ensures size { length (header_fields h.now) + tail_size h.now ≡ content_size h.now }
+    ensures capacity { vec_capacity out.old ≤ vec_capacity out.new }
 {
     match *h {
-        Header::Platform { .. } => 0x001,
-        Header::Policy { .. } => 0x101,
-        Header::Area { .. } => 0x301,
-        Header::Page { .. } => 0x302,
-        Header::Insert { .. } => 0x303,
-        Header::Context { .. } => 0x304,
-        Header::Required { .. } => 0x305,
-        Header::IdBlock { .. } => 0x30B,
-        Header::ErrorRange { .. } => 0x30D,
-        Header::Param { kind, .. } => param_header_type(kind),
-        Header::Carried { kind, .. } => kind,
+        Header::Platform {
+            mask,
+            highest_vtl,
+            kind,
+            version,
+            shared_gpa,
+        } => platform::append_fields(out, mask, highest_vtl, kind, version, shared_gpa),
+        Header::Policy { policy, mask } => policy::append_fields(out, policy, mask),
+        Header::Area {
+            bytes,
+            area,
+            offset,
+        } => area::append_fields(out, bytes, area, offset),
+        Header::Page {
+            gpa,
+            mask,
+            offset,
+            large,
+            unmeasured,
+            kind,
+        } => page::append_fields(out, gpa, mask, offset, large, unmeasured, kind),
+        Header::Insert { gpa, mask, area } => insert::append_fields(out, gpa, mask, area),
+        Header::Param {
+            area,
+            byte_offset,
+            ..
+        } => param::append_fields(out, area, byte_offset),
+        Header::Context {
+            gpa,
+            mask,
+            offset,
+            vp,
+        } => context::append_fields(out, gpa, mask, offset, vp),
+        Header::Required {
+            gpa,
+            mask,
+            bytes,
+            flags,
+        } => required::append_fields(out, gpa, mask, bytes, flags),
+        Header::ErrorRange { gpa, mask, bytes } => {
+            error_range::append_fields(out, gpa, mask, bytes)
+        }
+        Header::IdBlock {
+            mask,
+            author_enabled,
+            ld,
+            family_id,
+            image_id,
+            version,
+            guest_svn,
+            id_algorithm,
+            author_algorithm,
+        } => id_block::append_fields(
+            out,
+            mask,
+            author_enabled,
+            ld,
+            family_id,
+            image_id,
+            version,
+            guest_svn,
+            id_algorithm,
+            author_algorithm,
+        ),
+        Header::Carried { .. } => {}
     }
 }
 
-// How many bytes the header's content is written with.
-fn content_size(h: &Header) -> u32
-    ensures { result ≡ written_size h.now }
-{
-    match *h {
-        Header::Platform { .. } | Header::Policy { .. } | Header::Area { .. } => 16,
-        Header::Page { .. } | Header::Required { .. } => 24,
-        Header::Insert { .. } | Header::ErrorRange { .. } => 16,
-        Header::Param { .. } => 8,
-        Header::Context { .. } => 20,
-        Header::IdBlock { .. } => 696,
-        Header::Carried { length, .. } => length,
-    }
-}
-
-// How many bytes are missing up to a multiple of 8.
+/// How many bytes are missing up to a multiple of 8.
 fn padding_of(length: u32) -> usize
     ensures value { result ≡ padding_size length }
     ensures few { result ≤ 7 }
 {
     (8 - length as usize % 8) % 8
-}
-
-// Appends what there is room for.
-fn append(out: &mut Vec<u8>, bytes: &[u8])
-    requires room { vec_len out.old + length bytes.now ≤ vec_capacity out.old }
-    ensures items { out.new.items ≡ out.old.items ++ bytes.now }
-    ensures len { vec_len out.new ≡ vec_len out.old + length bytes.now }
-    ensures capacity { vec_capacity out.old ≤ vec_capacity out.new }
-{
-    let _ = out.extend_from_slice(bytes);
 }
 
 #[cfg(test)]

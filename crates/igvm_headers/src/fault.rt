@@ -21,6 +21,12 @@ pub enum ReadWhat {
     TooShort,
     Magic,
     Version,
+    /// The image is for AArch64.
+    Aarch64,
+    /// The architecture is neither X64 nor AArch64.
+    Architecture,
+    /// Pages have another size than 4,096 bytes.
+    PageSize,
     TotalSize,
     Section,
     Checksum,

@@ -1,85 +1,54 @@
-//! The fields of one record in a row, as little-endian numbers (`igvm_defs`, IGVM_VHS_*).
-ghost use Rattle.std.specs.Prelude.{◌≡◌, ◌≤◌, ◌+◌, [], ◌++◌, length};
+//! Fields in a row at the end of bytes that have room for them. All numbers of the format are
+//! little-endian.
+ghost use Rattle.std.specs.Prelude.{◌≡◌, ◌≤◌, ◌+◌, ◌++◌, length, replicate, vec_len, vec_capacity};
 ghost use Rattle.byteorder.specs.Endian.{little_bytes};
 
-use std::marker::Model;
-
-/// The bytes of a record's fields, at most 104 as in an ID block. Contracts see them as a list.
-#[derive(Drop)]
-pub(crate) struct Fields {
-    room: [u8; 104],
-    used: usize,
+/// Appends bytes.
+pub(crate) fn append(out: &mut Vec<u8>, bytes: &[u8])
+    requires room { vec_len out.old + length bytes.now ≤ vec_capacity out.old }
+    ensures items { out.new.items ≡ out.old.items ++ bytes.now }
+    ensures len { vec_len out.new ≡ vec_len out.old + length bytes.now }
+    ensures capacity { vec_capacity out.old ≤ vec_capacity out.new }
+{
+    let _ = out.extend_from_slice(bytes);
 }
 
-impl Model for Fields {
-    ghost use Rattle.std.specs.Prelude.{List, ℕ, ◌≤◌, take};
-
-    ghost Value = { List ℕ };
-
-    ghost view = { λ f. take f.used f.room };
-
-    ghost invariant = { λ f. f.used ≤ 104 };
+/// Appends a number of 8 bits.
+pub(crate) fn append_u8(out: &mut Vec<u8>, field: u8)
+    requires room { vec_len out.old + 1 ≤ vec_capacity out.old }
+    ensures items { out.new.items ≡ out.old.items ++ little_bytes 1 field }
+    ensures len { vec_len out.new ≡ vec_len out.old + 1 }
+    ensures capacity { vec_capacity out.old ≤ vec_capacity out.new }
+{
+    append(out, &field.to_le_bytes());
 }
 
-impl Fields {
-    /// No field yet.
-    pub(crate) fn new() -> Fields
-        ensures { result ≡ [] }
-    {
-        Fields {
-            room: [0; 104],
-            used: 0,
-        }
-    }
+/// Appends a number of 16 bits.
+pub(crate) fn append_u16(out: &mut Vec<u8>, field: u16)
+    requires room { vec_len out.old + 2 ≤ vec_capacity out.old }
+    ensures items { out.new.items ≡ out.old.items ++ little_bytes 2 field }
+    ensures len { vec_len out.new ≡ vec_len out.old + 2 }
+    ensures capacity { vec_capacity out.old ≤ vec_capacity out.new }
+{
+    append(out, &field.to_le_bytes());
+}
 
-    /// The bytes so far.
-    pub(crate) fn bytes(&self) -> &[u8]
-        ensures { result.now ≡ self.now }
-    {
-        &self.room[..self.used]
-    }
+/// Appends a number of 32 bits.
+pub(crate) fn append_u32(out: &mut Vec<u8>, field: u32)
+    requires room { vec_len out.old + 4 ≤ vec_capacity out.old }
+    ensures items { out.new.items ≡ out.old.items ++ little_bytes 4 field }
+    ensures len { vec_len out.new ≡ vec_len out.old + 4 }
+    ensures capacity { vec_capacity out.old ≤ vec_capacity out.new }
+{
+    append(out, &field.to_le_bytes());
+}
 
-    /// These bytes behind those so far.
-    pub(crate) fn put(self, field: &[u8]) -> Fields
-        requires { length self + length field.now ≤ 104 }
-        ensures bytes { result ≡ self ++ field.now }
-        ensures size { length result ≡ length self + length field.now }
-    {
-        let mut room = self.room;
-        let used = self.used + field.len();
-        room[self.used..used].copy_from_slice(field);
-        Fields { room, used }
-    }
-
-    pub(crate) fn u8(self, field: u8) -> Fields
-        requires { length self + 1 ≤ 104 }
-        ensures bytes { result ≡ self ++ little_bytes 1 field }
-        ensures size { length result ≡ length self + 1 }
-    {
-        self.put(&field.to_le_bytes())
-    }
-
-    pub(crate) fn u16(self, field: u16) -> Fields
-        requires { length self + 2 ≤ 104 }
-        ensures bytes { result ≡ self ++ little_bytes 2 field }
-        ensures size { length result ≡ length self + 2 }
-    {
-        self.put(&field.to_le_bytes())
-    }
-
-    pub(crate) fn u32(self, field: u32) -> Fields
-        requires { length self + 4 ≤ 104 }
-        ensures bytes { result ≡ self ++ little_bytes 4 field }
-        ensures size { length result ≡ length self + 4 }
-    {
-        self.put(&field.to_le_bytes())
-    }
-
-    pub(crate) fn u64(self, field: u64) -> Fields
-        requires { length self + 8 ≤ 104 }
-        ensures bytes { result ≡ self ++ little_bytes 8 field }
-        ensures size { length result ≡ length self + 8 }
-    {
-        self.put(&field.to_le_bytes())
-    }
+/// Appends a number of 64 bits.
+pub(crate) fn append_u64(out: &mut Vec<u8>, field: u64)
+    requires room { vec_len out.old + 8 ≤ vec_capacity out.old }
+    ensures items { out.new.items ≡ out.old.items ++ little_bytes 8 field }
+    ensures len { vec_len out.new ≡ vec_len out.old + 8 }
+    ensures capacity { vec_capacity out.old ≤ vec_capacity out.new }
+{
+    append(out, &field.to_le_bytes());
 }

@@ -1,10 +1,28 @@
 //! What holds of every header that is spelled: each law is a function that does nothing.
 ghost use Rattle.std.specs.Prelude.{◌≡◌, ◌+◌, ◌/◌, ◌*◌, ◌<◌, ℕ, List, ◌++◌, length, drop, replicate, Ok};
 ghost use Rattle.igvm_headers.specs.Numbers.{number_at, slice};
-ghost use Rattle.igvm_headers.specs.Records.{header_form};
-ghost use Rattle.igvm_headers.specs.Spelling.{header_type, header_content, header_tail, padding_size, spelled};
-ghost use Rattle.igvm_headers.specs.Spellable.{IsSpellable, IsRead, content_size};
+ghost use Rattle.igvm_headers.specs.HeaderFacts.{header_type, content_size, header_tail};
+ghost use Rattle.igvm_headers.specs.HeaderForm.{header_form};
+ghost use Rattle.igvm_headers.specs.Spelling.{header_content, padding_size, spelled};
+ghost use Rattle.igvm_headers.specs.SpellingConditions.{NumbersFit, IsSpellable, IsRead};
 ghost use Rattle.igvm_headers.specs.declared.header.Header.{Header};
+
+use crate::Header;
+
+/// The numbers of a header fit their fields, since they are of these types.
+pub fn numbers_fit(h: Header)
+    ensures { NumbersFit h }
+{
+    if let Header::IdBlock {
+        ld,
+        family_id,
+        image_id,
+        ..
+    } = h
+    {
+        let _lengths = (ld.bytes().len(), family_id.len(), image_id.len());
+    }
+}
 
 /// What is spelled is read again as the same header with the same tail. How long its content is
 /// depends on the record alone and not on its numbers: that of a context has 20 bytes.

@@ -1,13 +1,19 @@
 //! What a measurement or a load may be asked to do otherwise.
+ghost use Rattle.std.specs.Prelude.{◌≡◌, false};
 
-/// The options of a measurement. There is none yet.
+/// The options of a measurement.
 #[derive(Clone, Copy, Debug, PartialEq, Eq)]
-pub struct Options {}
+pub struct Options {
+    /// On SEV-SNP a measured page at file offset 0 is a page of zeros to the firmware.
+    pub native_zero: bool,
+}
 
 impl Options {
     /// No option set.
-    pub fn plain() -> Options {
-        Options {}
+    pub fn plain() -> Options
+        ensures { result.native_zero ≡ false }
+    {
+        Options { native_zero: false }
     }
 }
 
@@ -17,6 +23,6 @@ mod tests {
 
     #[test]
     fn plain_is_one_value(rt: HostRuntime) {
-        assert_eq!(rt; Options::plain(), Options {});
+        assert_eq!(rt; Options::plain(), Options { native_zero: false });
     }
 }

@@ -1,8 +1,28 @@
 //! One page of 4,096 bytes, lent from where it lies.
 ghost use Rattle.std.specs.Prelude.{◌≡◌, ◌≤◌, ◌<◌, ◌-◌, ◌++◌, length, replicate, slice_index};
-ghost use Rattle.igvm_headers.specs.Pages.{padded_page};
+ghost use Rattle.igvm_headers.specs.Pages.{page_bytes, padded_page, small_pages};
 
 use std::marker::Model;
+
+/// The size of a page, in bytes.
+pub const PAGE_SIZE: u64 = 4096;
+
+/// The size of a large page, in bytes: 512 pages.
+pub const LARGE_PAGE_SIZE: u64 = 2_097_152;
+
+/// The size in bytes of a page, large or not.
+pub fn page_bytes(large: bool) -> u64
+    ensures { result ≡ page_bytes large }
+{
+    if large { LARGE_PAGE_SIZE } else { PAGE_SIZE }
+}
+
+/// How many pages of 4,096 bytes a page is, large or not.
+pub fn small_pages(large: bool) -> u64
+    ensures { result ≡ small_pages large }
+{
+    if large { 512 } else { 1 }
+}
 
 /// A page: at most 4,096 bytes that are lent, followed by zeros. Contracts see its 4,096 bytes.
 #[derive(Drop)]

@@ -1,8 +1,6 @@
 //! Isolation platforms (`igvm_defs`, IgvmPlatformType).
-ghost use Rattle.std.specs.Prelude.{◌≡◌};
-ghost use Rattle.igvm_headers.specs.Kinds.{kind_number};
-ghost use Rattle.igvm_headers.specs.Names.{kind_text};
-ghost use Rattle.igvm_headers.specs.Records.{platform_kind_of};
+ghost use Rattle.std.specs.Prelude.{◌≡◌, ◌==◌, bytes_eq, find};
+ghost use Rattle.igvm_headers.specs.PlatformKinds.{kind_number, kind_text, platform_kind_of, platform_kind_named};
 
 /// The platform that an image supports.
 #[derive(Clone, Copy, Debug, PartialEq, Eq)]
@@ -29,33 +27,56 @@ pub fn kind_name(kind: PlatformKind) -> &'static str
     }
 }
 
-/// The kind of a platform type's number.
-pub(crate) fn platform_kind_of_number(number: u8) -> Option<PlatformKind>
-    ensures { result ≡ platform_kind_of number }
-{
-    match number {
-        0 => Some(PlatformKind::Native),
-        1 => Some(PlatformKind::VsmIsolation),
-        2 => Some(PlatformKind::SevSnp),
-        3 => Some(PlatformKind::Tdx),
-        4 => Some(PlatformKind::Sev),
-        5 => Some(PlatformKind::SevEs),
-        _ => None,
+impl PlatformKind {
+    /// All kinds, in the order of their numbers.
+    pub const ALL: [PlatformKind; 6] = [
+        PlatformKind::Native,
+        PlatformKind::VsmIsolation,
+        PlatformKind::SevSnp,
+        PlatformKind::Tdx,
+        PlatformKind::Sev,
+        PlatformKind::SevEs,
+    ];
+
+    /// The number that the kind has in a header.
+    pub fn number(self) -> u8
+        ensures { result ≡ kind_number self }
+    {
+        match self {
+            PlatformKind::Native => 0,
+            PlatformKind::VsmIsolation => 1,
+            PlatformKind::SevSnp => 2,
+            PlatformKind::Tdx => 3,
+            PlatformKind::Sev => 4,
+            PlatformKind::SevEs => 5,
+        }
+    }
+
+    /// The kind of a number, where there is one.
+    pub fn from_number(number: u8) -> Option<PlatformKind>
+        ensures { result ≡ platform_kind_of number }
+    {
+        numbered(&PlatformKind::ALL, number)
+    }
+
+    /// The kind of a name, where there is one.
+    pub fn from_name(name: &str) -> Option<PlatformKind>
+        ensures { result ≡ platform_kind_named name.now }
+    {
+        named(&PlatformKind::ALL, name)
     }
 }
 
-/// The number of a kind's platform type.
-pub(crate) fn platform_number(kind: PlatformKind) -> u8
-    ensures { result ≡ kind_number kind }
+fn numbered(kinds: &[PlatformKind], number: u8) -> Option<PlatformKind>
+    ensures { result ≡ find (λ kind. kind_number kind == number) kinds.now }
 {
-    match kind {
-        PlatformKind::Native => 0,
-        PlatformKind::VsmIsolation => 1,
-        PlatformKind::SevSnp => 2,
-        PlatformKind::Tdx => 3,
-        PlatformKind::Sev => 4,
-        PlatformKind::SevEs => 5,
-    }
+    kinds.iter().copied().find(|kind| kind.number() == number)
+}
+
+fn named(kinds: &[PlatformKind], name: &str) -> Option<PlatformKind>
+    ensures { result ≡ find (λ kind. bytes_eq (kind_text kind) name.now) kinds.now }
+{
+    kinds.iter().copied().find(|kind| kind_name(*kind) == name)
 }
 
 #[cfg(test)]
@@ -63,16 +84,21 @@ mod tests {
     use super::*;
 
     #[test]
-    fn names_platforms(rt: HostRuntime) {
-        for (kind, name) in [
-            (PlatformKind::Native, "native"),
-            (PlatformKind::VsmIsolation, "vsm"),
-            (PlatformKind::SevSnp, "snp"),
-            (PlatformKind::Tdx, "tdx"),
-            (PlatformKind::Sev, "sev"),
-            (PlatformKind::SevEs, "sev_es"),
+    fn numbers_and_names_platforms(rt: HostRuntime) {
+        for (kind, number, name) in [
+            (PlatformKind::Native, 0, "native"),
+            (PlatformKind::VsmIsolation, 1, "vsm"),
+            (PlatformKind::SevSnp, 2, "snp"),
+            (PlatformKind::Tdx, 3, "tdx"),
+            (PlatformKind::Sev, 4, "sev"),
+            (PlatformKind::SevEs, 5, "sev_es"),
         ] {
             assert_eq!(rt; kind_name(kind), name);
+            assert_eq!(rt; kind.number(), number);
+            assert_eq!(rt; PlatformKind::from_number(number), Some(kind));
+            assert_eq!(rt; PlatformKind::from_name(name), Some(kind));
         }
+        assert_eq!(rt; PlatformKind::from_number(6), None);
+        assert_eq!(rt; PlatformKind::from_name("SNP"), None);
     }
 }

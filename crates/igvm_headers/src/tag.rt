@@ -5,6 +5,8 @@
 pub enum Tag {
     /// Its bytes are measured.
     Normal,
+    /// Zeros that the firmware makes; its place and that are measured.
+    Zero,
     /// Its place alone is measured.
     Unmeasured,
     /// The SNP secrets page.

@@ -1,6 +1,6 @@
 //! Contents whose byte i is i, so that a field's value tells its place and the order of its bytes.
 use super::*;
-use crate::{PageKind, PlatformKind};
+use crate::{Digest, PageKind, PlatformKind};
 
 // The fields that most records begin with.
 const FIRST: u64 = 0x0706_0504_0302_0100;

@@ -1,6 +1,6 @@
 //! Headers and their bytes, written by hand from the table of records; numbers at their limits.
 ghost use Rattle.std.specs.Prelude.{IsTrue};
-ghost use Rattle.igvm_headers.specs.Spellable.{TailFits, LargeIsNormal, KindIsCarried};
+ghost use Rattle.igvm_headers.specs.SpellingConditions.{TailFits, LargeIsNormal, KindIsCarried};
 ghost use Rattle.igvm_headers.specs.declared.header.Header.TheVariants.{Carried};
 
 use super::*;

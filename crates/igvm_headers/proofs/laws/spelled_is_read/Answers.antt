@@ -1,4 +1,4 @@
-use Rattle.igvm_headers.proofs.Again.{header_again, tail_again}
+use Rattle.igvm_headers.proofs.ReadBack.{header_again, tail_again}
 use Rattle.igvm_headers.proofs.Spelled.{content_length}
 use Rattle.igvm_headers.proofs.laws.spelled_is_read.Goals as goal
 

@@ -1,29 +1,11 @@
 -- Which headers have a spelling that is read again as the same header.
 use Rattle.std.specs.Prelude.{◌≡◌, ℕ, ◌<◌, ◌^◌, List, length, slice_index, IsTrue, Ok, ⊤}
-use Rattle.igvm_headers.specs.Records.{is_carried, header_form}
+use Rattle.igvm_headers.specs.HeaderFacts.{tail_size}
+use Rattle.igvm_headers.specs.HeaderForm.{header_form}
+use Rattle.igvm_headers.specs.Records.Carried.{is_carried}
 use Rattle.igvm_headers.specs.declared.page_kind.PageKind.TheVariants.{Normal}
 use Rattle.igvm_headers.specs.declared.header.Header.{Header}
 use Rattle.igvm_headers.specs.declared.header.Header.TheVariants.{Platform, Policy, Area, Page, Insert, Param, Context, Required, ErrorRange, IdBlock, Carried}
-
--- how many bytes a header carries unread
-abbrev pub tail_size : Header → ℕ
-tail_size (IdBlock _ _ _ _ _ _ _ _ _) = 592
-tail_size (Carried kind length) = length
-tail_size _ = 0
-
--- how many bytes a header's content is written with
-abbrev pub content_size : Header → ℕ
-content_size (Platform mask highest_vtl kind version shared_gpa) = 16
-content_size (Policy policy mask) = 16
-content_size (Area bytes area offset) = 16
-content_size (Page gpa mask offset large unmeasured kind) = 24
-content_size (Insert gpa mask area) = 16
-content_size (Param kind area byte_offset) = 8
-content_size (Context gpa mask offset vp) = 20
-content_size (Required gpa mask bytes flags) = 24
-content_size (ErrorRange gpa mask bytes) = 16
-content_size (IdBlock _ _ _ _ _ _ _ _ _) = 696
-content_size (Carried kind length) = length
 
 -- the bytes handed in are as many as the header carries
 abbrev pub TailFits : Header → List ℕ → Type 0
@@ -39,15 +21,19 @@ abbrev pub KindIsCarried : Header → Type 0
 KindIsCarried (Carried kind length) = IsTrue (is_carried kind)
 KindIsCarried _ = ⊤
 
+-- a number of 8 bits
 abbrev U8 : ℕ → Type 0
 U8 n = n < 2 ^ 8
 
+-- a number of 16 bits
 abbrev U16 : ℕ → Type 0
 U16 n = n < 2 ^ 16
 
+-- a number of 32 bits
 abbrev U32 : ℕ → Type 0
 U32 n = n < 2 ^ 32
 
+-- a number of 64 bits
 abbrev U64 : ℕ → Type 0
 U64 n = n < 2 ^ 64
 
