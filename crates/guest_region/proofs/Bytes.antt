@@ -20,7 +20,7 @@ use denote.Memory.{part_at, shared_of}
 use denote.Plain.{uint_out, uint_in}
 use denote.Slice.{elements_shared}
 use denote.Steps.{nothing}
-use Rattle.guest_region.specs.Parts.{part, with_part}
+use Rattle.guest_region.specs.ByteSlices.{part, with_part}
 
 abbrev pub Row : List ℕ → ℕ → ℕ → Fml
 Row bytes b o = row u8 full_share bytes b o

@@ -1,4 +1,4 @@
-pub mod Slots
+pub mod PagesOf
 pub mod Regions
 pub mod Sharing
 pub mod Bytes

@@ -1,15 +1,15 @@
 -- A region's pages, as its block of bytes has them.
 use Rattle.std.proofs.Common.{◌≡◌, ℕ, ◌+◌, ◌*◌, ◌<◌, ◌≤◌, List, length, set, Some, sym, ap, subst, ◌∙◌, arith, length-append}
 use Rattle.std.specs.List.{slice_get, All}
-use Rattle.std.proofs.lemmas.List.{length-replicate, length-take, length-take-le, length-drop}
+use Rattle.std.proofs.lemmas.List.{length-take, length-take-le, length-drop}
 use Rattle.std.specs.declared.alloc.Global.{Global}
 use Rattle.guest_region.specs.declared.block.RawBlock.{RawBlock}
 use Rattle.guest_region.specs.declared.block.Lease.{Lease}
-use Rattle.guest_region.specs.Lends.{with_bytes}
-use Rattle.guest_region.specs.Region.{IsWhole}
-use Rattle.guest_region.specs.Parts.{part, with_part, padded}
-use Rattle.guest_region.specs.Slots.{pages_of}
-use Rattle.guest_region.proofs.Slots.{piece_within, length-piece, length-pieces, get-pieces, set-pieces}
+use Rattle.guest_region.specs.LendsPart.{with_bytes}
+use Rattle.guest_region.specs.RegionInvariant.{IsWhole}
+use Rattle.guest_region.specs.ByteSlices.{part, with_part}
+use Rattle.guest_region.specs.PagesOf.{pages_of}
+use Rattle.guest_region.proofs.PagesOf.{piece_within, length-piece, length-pieces, get-pieces, set-pieces}
 
 -- a region has as many pages as slots
 pub length-pages : (n : ℕ) (bytes : List ℕ) (pages : List (List ℕ)) → pages_of n bytes ≡ pages → n ≡ length pages
@@ -31,9 +31,6 @@ page_at n slot bytes pages shows within =
 -- a part has the length that was asked for
 pub length-part : (bytes : List ℕ) (at n : ℕ) → at + n ≤ length bytes → length (part bytes at n) ≡ n
 length-part bytes at n h = length-take-le n _ (omega (arith, length-drop at bytes))
-
-pub length-padded : (len : ℕ) (bytes : List ℕ) → length bytes ≤ len → length (padded len bytes) ≡ len
-length-padded len bytes h = length-append bytes _ ∙ omega (arith, length-replicate {A = ℕ})
 
 -- a write leaves the block as long as it was
 pub length-with_part : (bytes new : List ℕ) (at : ℕ) → at + length new ≤ length bytes

@@ -1,6 +1,6 @@
-pub mod Parts
+pub mod ByteSlices
 pub mod Ownership
 pub mod Lease
-pub mod Lends
-pub mod Slots
-pub mod Region
+pub mod LendsPart
+pub mod PagesOf
+pub mod RegionInvariant

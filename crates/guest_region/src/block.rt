@@ -3,7 +3,7 @@ ghost use Rattle.std.specs.Prelude.{◌≡◌, ℕ, ◌+◌, ◌≤◌, ◌<◌,
 ghost use Rattle.std.specs.Borrow.{sem};
 ghost use base.Fml.{ftrue};
 ghost use denote.RawPtr.{Ptr};
-ghost use Rattle.guest_region.specs.Parts.{part};
+ghost use Rattle.guest_region.specs.ByteSlices.{part};
 ghost use Rattle.guest_region.specs.Ownership.{bytes_own, bytes_lent, block_type};
 
 use std::alloc::{AllocError, Allocator};
@@ -38,7 +38,7 @@ impl<A: Allocator> Model for Lease<A> {
 
 impl RawBlock {
     ghost use Rattle.guest_region.specs.Lease.{IsLeaseFor};
-    ghost use Rattle.guest_region.specs.Lends.{lends_part};
+    ghost use Rattle.guest_region.specs.LendsPart.{lends_part};
 
     /// A block of that many zeros.
     pub(crate) fn zeroed<A: Allocator>(

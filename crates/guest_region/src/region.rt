@@ -1,7 +1,6 @@
 //! A guest's memory as numbered slots, each of which holds one page of 4,096 bytes.
 ghost use Rattle.std.specs.Prelude.{◌≡◌, ℕ, ◌<◌, ◌≤◌, List, Some, length, replicate, slice_get, slice_set, IfOk};
 ghost use Rattle.std.specs.List.{All};
-ghost use Rattle.guest_region.specs.Parts.{padded};
 
 use crate::block::{Lease, RawBlock};
 use igvm_headers::{Memory, PageView};
@@ -22,20 +21,20 @@ pub struct GuestRegion {
 
 impl Model for GuestRegion {
     ghost use Rattle.std.specs.Prelude.{◌≡◌, ℕ, ◌*◌, ◌≤◌, List, length};
-    ghost use Rattle.guest_region.specs.Slots.{pages_of};
+    ghost use Rattle.guest_region.specs.PagesOf.{pages_of};
 
     ghost Value = { List (List ℕ) };
 
     ghost view = { λ r. pages_of r.slots r.block.bytes };
 
-    ghost use Rattle.guest_region.specs.Region.{IsWhole};
+    ghost use Rattle.guest_region.specs.RegionInvariant.{IsWhole};
 
     ghost invariant = { λ r. IsWhole r.alloc r.lease r.block r.slots };
 }
 
 impl GuestRegion {
-    /// A region of that many slots, whose pages are all zero. It takes its memory in one piece, and no
-    /// other call takes any.
+    /// A region of `slots` slots, whose pages are all zero. It takes its memory in one piece, and no
+    /// other call has an answer for want of memory.
     pub fn new(alloc: Global, slots: u32) -> Result<GuestRegion, Memory>
         requires { slots ≤ 589824 }
         ensures { IfOk result (λ region. region ≡ replicate slots (replicate 4096 0)) }
@@ -64,7 +63,7 @@ impl GuestRegion {
         requires { slot < length self.old }
         ensures { self.new ≡ slice_set self.old slot page.entry }
     {
-        fill_page(self.block.part_mut(slot as usize * PAGE, PAGE), page.lent());
+        page.fill(self.block.part_mut(slot as usize * PAGE, PAGE));
     }
 
     /// Lends the 4,096 bytes of that slot.
@@ -98,52 +97,5 @@ impl Drop for GuestRegion {
     }
 }
 
-// The bytes, followed by zeros.
-fn fill_page(page: &mut [u8], bytes: &[u8])
-    requires { length bytes.now ≤ length page.old }
-    ensures { page.new ≡ padded (length page.old) bytes.now }
-{
-    page[..bytes.len()].copy_from_slice(bytes);
-    page[bytes.len()..].fill(0);
-}
-
 #[cfg(test)]
-mod tests {
-    use super::*;
-    use std::test::Fail;
-
-    // With its one allocation refused this test fails, and with a later one refused it passes.
-    #[test]
-    fn takes_one_block(rt: HostRuntime) -> Result<(), Fail> {
-        let region = GuestRegion::new(rt.alloc(), 3)?;
-        assert_eq!(rt; region.page(0), [0u8; 4096].as_slice());
-        assert_eq!(rt; region.page(1), [0u8; 4096].as_slice());
-        assert_eq!(rt; region.page(2), [0u8; 4096].as_slice());
-        Ok(())
-    }
-
-    #[test]
-    fn keeps_pages_apart(rt: HostRuntime) -> Result<(), Fail> {
-        let none = GuestRegion::new(rt.alloc(), 0)?;
-        assert_eq!(rt; none.slots(), 0);
-
-        let mut region = GuestRegion::new(rt.alloc(), 2)?;
-        assert_eq!(rt; region.slots(), 2);
-        assert_eq!(rt; region.page(0), [0u8; 4096].as_slice());
-        assert_eq!(rt; region.page(1), [0u8; 4096].as_slice());
-
-        region.write(0, PageView::of_bytes([0xAA; 4096].as_slice()));
-        assert_eq!(rt; region.page(0), [0xAA; 4096].as_slice());
-        assert_eq!(rt; region.page(1), [0u8; 4096].as_slice());
-
-        region.write(1, PageView::of_bytes([0x55; 4096].as_slice()));
-        region.write(1, PageView::of_bytes([1, 2, 3].as_slice()));
-        let mut out = [0xFFu8; 4096];
-        region.copy_out(1, &mut out);
-        assert_eq!(rt; &out[..3], [1, 2, 3].as_slice());
-        assert_eq!(rt; &out[3..], [0; 4093].as_slice());
-        region.copy_out(0, &mut out);
-        assert_eq!(rt; out, [0xAA; 4096]);
-        Ok(())
-    }
-}
+mod tests;

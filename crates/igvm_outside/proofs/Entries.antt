@@ -13,8 +13,8 @@ use Rattle.std.specs.Ordering.{nat_cmp, eq_by_cmp, is_eq}
 use Rattle.std.specs.Cmp.Lexicographic.{slice_cmp}
 use Rattle.std.proofs.lemmas.Cmp.{nat_list_cmp_total, tied_itself}
 use Rattle.igvm_outside.specs.Files.{content}
-use Rattle.igvm_outside.specs.Kept.{entries, files_of, name_at, bytes_at, IsFileAt}
-use Rattle.igvm_outside.specs.declared.kept.KeptFile.{KeptFile}
+use Rattle.igvm_outside.specs.MemFiles.{entries, files_of, name_at, bytes_at, IsFileAt}
+use Rattle.igvm_outside.specs.declared.fakes.mem_files.KeptFile.{KeptFile}
 
 abbrev Entry : Type 0
 Entry = List ℕ × List ℕ
@@ -141,7 +141,7 @@ replaced_there files q at file here named =
           here.first k less (sym (ap (λ (e : Entry). e.0) (get_or-set_other es at k (file.name.items, file.bytes.items) ([], []) other)) ∙ sym (ap (λ (l : List Entry). name l k) put) ∙ is);
     }
 
--- a file of a new name behind the others
+-- a file of a new name after the others
 pub pushed : (files : List KeptFile) (q : List ℕ) (file : KeptFile) → finite.get (files_of files) q ≡ None → file.name.items ≡ q
     → files_of (files ++ file ∷ []) ≡ finite.insert (files_of files) q file.bytes.items
 pushed files q file none named =

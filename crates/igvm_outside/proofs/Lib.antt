@@ -1,8 +1,9 @@
 pub mod Fronts
-pub mod Whole
+pub mod ReadProgress
 pub mod Calls
 pub mod Entries
 pub mod Refused
-pub mod KeptReads
+pub mod MemReads
 pub mod Written
 pub mod MadeBytes
+pub mod Composed

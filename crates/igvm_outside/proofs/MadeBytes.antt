@@ -4,7 +4,7 @@ use Rattle.std.specs.List.{flat_map, range_with_len}
 use Rattle.std.specs.Int.{to_le_bytes, w64}
 use Rattle.std.proofs.lemmas.List.{ext_get_or, get_or_append_left, get_or-append_right, get_or-take, get_or-drop}
 use Rattle.std.proofs.lemmas.Bool.{cases_lt}
-use Rattle.igvm_outside.specs.Made.{made_bytes}
+use Rattle.igvm_outside.specs.MadeFiles.{made_bytes}
 
 -- numbers of eight bytes each, joined
 module _ (eight : ℕ → List ℕ) (size : (number : ℕ) → length (eight number) ≡ 8) where

@@ -12,7 +12,7 @@ use Rattle.std.proofs.Math.Seq.{take-append-add}
 use Rattle.std.proofs.lemmas.List.{take_more, take_all, take-append-drop, take-append-le, map-append}
 use Rattle.std.proofs.lemmas.List.Folds.{concat-append}
 use Rattle.igvm_outside.specs.Files.{Files, content, with_file, with_more}
-use Rattle.igvm_outside.specs.Pieces.{lent, joined, HoldsFront}
+use Rattle.igvm_outside.specs.JoinedBytes.{lent, joined, HoldsFront}
 use Rattle.igvm_outside.proofs.Fronts.{take_on}
 
 once : {A : Type 0} (t : Bool) (x y z : A) → cond t x (cond t y z) ≡ cond t x z
@@ -39,6 +39,11 @@ more_file (Some files) name first second =
     ap Some (insert-insert files name first (content (map.insert files name first) name ++ second)
     ∙ ap (λ (l : List ℕ). map.insert files name (l ++ second)) (content-insert files name first))
 
+-- a file that is written twice holds what was written last
+pub with_file-with_file : (told : Option Files) (name first second : List ℕ) → with_file (with_file told name first) name second ≡ with_file told name second
+with_file-with_file None name first second = refl
+with_file-with_file (Some files) name first second = ap Some (insert-insert files name first second)
+
 pub write_more : (old mid new : Option Files) (name text piece : List ℕ) (at n : ℕ) → mid ≡ with_file old name (text ++ take at piece)
     → new ≡ with_more mid name (take n (take (length piece - at) (drop at piece))) → new ≡ with_file old name (text ++ take (at + n) piece)
 write_more old mid new name text piece at n before write =
@@ -54,7 +59,7 @@ broken_off old new name text piece at within is =
     (length text + at, omega (arith, length-append text piece), is ∙ ap (with_file old name) (sym (take-append-add text piece at)))
 
 -- what holds a front of a text holds a front of a longer one
-longer : (old new : Option Files) (name text more : List ℕ) → HoldsFront old new name text → HoldsFront old new name (text ++ more)
+pub longer : (old new : Option Files) (name text more : List ℕ) → HoldsFront old new name text → HoldsFront old new name (text ++ more)
 longer old new name text more h =
     (h.0, omega (arith, h.1, length-append text more), h.2 ∙ ap (with_file old name) (sym (take-append-le h.0 text more h.1)))
 

@@ -1,6 +1,7 @@
 -- How a fake behaves, and how many faults it has had.
-use Rattle.std.specs.Prelude.{ℕ, zero, suc, ◌≡◌, ◌+◌, min, Bool, false, ◌&&◌, cond, List, nat_eq, nat_lt, Option, None, Some, Result, OnOk}
+use Rattle.std.specs.Prelude.{ℕ, zero, suc, ◌≡◌, ◌≤◌, ◌+◌, min, Bool, true, false, ◌&&◌, cond, List, nat_eq, nat_lt, Option, None, Some, Result, OnOk, OnErr}
 use Rattle.std.specs.List.{list_any}
+use Rattle.igvm_headers.specs.FaultCounts.{HasCause}
 
 -- The script of a fake. `others` are the faults that no number asked for.
 pub record Script : Type 0 where
@@ -34,10 +35,19 @@ abbrev pub is_due : Script → Bool
 is_due script =
     nat_lt script.calls 18446744073709551615 && is_failing script.failing (script.calls + 1)
 
--- One call more. Where it was to fail it has failed, and where it answered Ok no fault is counted.
+-- What a call that failed adds: nothing where it was to fail, and else one fault that no number asked for.
+pub record HasFailed (old new : Script) : Type 0 where
+  pub due : is_due old ≡ true → new.others ≡ old.others
+  pub other : is_due old ≡ false → new.others ≡ min (old.others + 1) 18446744073709551615
+
+-- One call more. Where it was to fail it has failed, where it answered Ok no fault is counted, and else one.
 pub record IsCalled {A E : Type 0} (old new : Script) (result : Result A E) : Type 0 where
   pub calls : new.calls ≡ min (old.calls + 1) 18446744073709551615
   pub failing : new.failing ≡ old.failing
   pub piece : new.piece ≡ old.piece
   pub due : OnOk result (is_due old ≡ false)
   pub others : OnOk result (new.others ≡ old.others)
+  pub failed : OnErr result (HasFailed old new)
+  pub cause : HasCause (fault_count old) (fault_count new) result
+  pub no_fault : OnOk result (fault_count new ≡ fault_count old)
+  pub counted : fault_count old ≤ fault_count new

@@ -1,25 +1,20 @@
 //! Files and outputs as traits, so that what stands above is proved over each of them.
 #![tactic(auto)]
 
-mod filing;
-mod kept;
-mod made;
-mod made_shelf;
-mod mem_shelf;
-mod mem_sink;
+mod fakes;
+mod file_writing;
+mod laws;
 mod putting;
 mod read_refusal;
 mod reading;
-mod script;
 mod shelf;
 mod sink;
 mod std_shelf;
 mod std_sink;
 
-pub use filing::{write_file, write_pieces};
-pub use made_shelf::MadeShelf;
-pub use mem_shelf::MemShelf;
-pub use mem_sink::MemSink;
+pub use fakes::{MadeShelf, MemShelf, MemSink};
+pub use file_writing::{write_file, write_piece, write_pieces};
+pub use laws::{reads_compose, writes_compose};
 pub use putting::put_all;
 pub use read_refusal::ReadRefusal;
 pub use reading::read_all;

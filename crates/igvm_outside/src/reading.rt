@@ -1,9 +1,9 @@
 //! A whole file read from a shelf.
-ghost use Rattle.std.specs.Prelude.{◌≡◌, ℕ, ◌+◌, ◌^◌, ◌<◌, ◌≤◌, Some, length, IfSome, IfOk, OnOk, IsErrOf};
-ghost use Rattle.igvm_headers.specs.Causes.{Rose};
-ghost use Rattle.igvm_outside.specs.Files.{Nothing, reading, content, NeverFalls, IsUnwritten};
-ghost use Rattle.std.specs.FinMap as map;
-ghost use Rattle.igvm_outside.specs.Whole.{HasGiven};
+ghost use Rattle.std.specs.Prelude.{◌≡◌, ℕ, ◌+◌, ◌^◌, ◌<◌, ◌≤◌, length, IfSome, IfOk, OnOk, IsErrOf};
+ghost use Rattle.igvm_headers.specs.FaultCounts.{Rose};
+ghost use Rattle.igvm_outside.specs.Files.{Nothing, reading, content, IsUnwritten};
+ghost use Rattle.igvm_outside.specs.ReadProgress.{HasGiven};
+ghost use Rattle.igvm_outside.specs.ShelfCalls.{IsLonger, IsRead, OnlyReads};
 
 use crate::{ReadRefusal, Shelf};
 use std::alloc::Global;
@@ -12,7 +12,7 @@ use std::alloc::Global;
 const CHUNK: usize = 65_536;
 
 /// Reads a file to its end, of at most `limit` bytes. Want of memory may be answered at any step
-/// behind the opening.
+/// after the opening.
 pub fn read_all<S: Shelf>(
     alloc: Global,
     shelf: &mut S,
@@ -22,27 +22,19 @@ pub fn read_all<S: Shelf>(
     requires { limit ≤ 536870912 }
 
     // The file is read whole.
-    ensures whole { IfOk result (λ bytes. IfSome (S.told shelf.old)
-        (λ files. map.get files name.now ≡ Some bytes.items)) }
-    ensures within { IfOk result (λ bytes. length bytes.items ≤ limit) }
-    ensures given { IfOk result (λ bytes. S.given shelf.new ≡ length bytes.items) }
+    ensures read { IfOk result (λ bytes.
+        IsRead S.Shelf name.now limit bytes.items shelf.old shelf.new) }
 
     // It is refused as too long exactly where it gave more than the limit.
-    ensures too_long { IsErrOf result ReadRefusal.TooLong → limit < S.given shelf.new }
-    ensures short { OnOk result (S.given shelf.new ≤ limit) }
-    ensures file_too_long { IsErrOf result ReadRefusal.TooLong
-        → IfSome (S.told shelf.old) (λ files. limit < length (content files name.now)) }
-    ensures file_short { OnOk result (IfSome (S.told shelf.old)
-        (λ files. length (content files name.now) ≤ limit)) }
+    ensures too_long { IsErrOf result ReadRefusal.TooLong
+        → IsLonger S.Shelf name.now limit shelf.old shelf.new }
 
     // A fault has its cause.
     ensures cause { IsErrOf result ReadRefusal.Failed
         → Rose (S.read_faults shelf.old name.now) (S.read_faults shelf.new name.now) }
-    ensures reads { NeverFalls (S.read_faults shelf.old) (S.read_faults shelf.new) }
-    ensures writes { NeverFalls (S.write_faults shelf.old) (S.write_faults shelf.new) }
 
     // The files stay, and nothing is being written.
-    ensures kept { S.told shelf.new ≡ S.told shelf.old }
+    ensures only_reads { OnlyReads S.Shelf shelf.old shelf.new }
     ensures dropped { IsErrOf result ReadRefusal.Failed → S.state shelf.new ≡ Nothing }
     ensures open_still { (IsErrOf result ReadRefusal.Failed → ⊥)
         → S.state shelf.new ≡ reading (S.told shelf.new) name.now (S.given shelf.new) }
@@ -64,18 +56,17 @@ pub fn read_all<S: Shelf>(
     Err(ReadRefusal::TooLong)
 }
 
-// One read, whose bytes go behind those that were read before. It answers how many they are.
+// One read, whose bytes follow those that were read before. It answers how many they are.
 fn read_more<S: Shelf>(
     shelf: &mut S,
     name: &str,
     buffer: &mut [u8],
     bytes: &mut Vec<u8>,
 ) -> Result<usize, ReadRefusal>
-    requires given { HasGiven S.told S.state S.given shelf.old name.now bytes.old.items }
+    requires given { HasGiven S.Shelf shelf.old name.now bytes.old.items }
     requires room { 0 < length buffer.old }
     requires countable { length bytes.old.items < 2 ^ 62 }
-    ensures given { OnOk result (HasGiven S.told S.state S.given
-        shelf.new name.now bytes.new.items) }
+    ensures given { OnOk result (HasGiven S.Shelf shelf.new name.now bytes.new.items) }
     ensures grown { IfOk result (λ n. length bytes.new.items ≡ length bytes.old.items + n) }
     ensures within { IfOk result (λ n. n ≤ length buffer.old) }
     ensures end { IfOk result (λ n. n ≡ 0 → IfSome (S.told shelf.old)
@@ -83,9 +74,9 @@ fn read_more<S: Shelf>(
     ensures never_too_long { IsErrOf result ReadRefusal.TooLong → ⊥ }
     ensures cause { IsErrOf result ReadRefusal.Failed
         → Rose (S.read_faults shelf.old name.now) (S.read_faults shelf.new name.now) }
-    ensures reads { NeverFalls (S.read_faults shelf.old) (S.read_faults shelf.new) }
-    ensures writes { NeverFalls (S.write_faults shelf.old) (S.write_faults shelf.new) }
-    ensures kept { S.told shelf.new ≡ S.told shelf.old }
+    ensures no_fault { OnOk result (S.read_faults shelf.new name.now
+        ≡ S.read_faults shelf.old name.now) }
+    ensures only_reads { OnlyReads S.Shelf shelf.old shelf.new }
     ensures dropped { IsErrOf result ReadRefusal.Failed → S.state shelf.new ≡ Nothing }
     ensures open_still { IsErrOf result ReadRefusal.Memory
         → S.state shelf.new ≡ reading (S.told shelf.new) name.now (S.given shelf.new) }

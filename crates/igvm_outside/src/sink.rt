@@ -1,6 +1,6 @@
 //! An output that takes bytes, a piece at a time.
-ghost use Rattle.std.specs.Prelude.{◌≡◌, ℕ, ◌<◌, ◌≤◌, List, Option, length, take, IfOk, OnErr};
-ghost use Rattle.igvm_headers.specs.Causes.{HasCause};
+ghost use Rattle.std.specs.Prelude.{◌≡◌, ℕ, ◌<◌, ◌≤◌, List, Option, length, take, IfOk, OnOk, OnErr};
+ghost use Rattle.igvm_headers.specs.FaultCounts.{HasCause};
 ghost use Rattle.igvm_outside.specs.Outputs.{gained};
 
 use igvm_headers::Failed;
@@ -10,7 +10,8 @@ pub trait Sink {
     /// All bytes put, where the output tells them.
     ghost bytes: { Self → Option (List ℕ) };
 
-    /// How often a put has failed: a `u64` that never falls and stops at its last value.
+    /// How often a put has failed: a `u64` that never falls and stops at its last value. An answer Ok
+    /// leaves it.
     ghost faults: { Self → ℕ };
 
     /// Takes the first bytes of a piece and answers how many.
@@ -22,5 +23,6 @@ pub trait Sink {
             ≡ gained (bytes self.old) (take n piece.now)) }
         ensures kept { OnErr result (bytes self.new ≡ bytes self.old) }
         ensures cause { HasCause (faults self.old) (faults self.new) result }
+        ensures no_fault { OnOk result (faults self.new ≡ faults self.old) }
         ensures counted { faults self.old ≤ faults self.new };
 }

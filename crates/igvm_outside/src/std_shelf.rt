@@ -1,6 +1,6 @@
 //! Real files, through the runtime. What they hold is not told.
 ghost use Rattle.std.specs.Prelude.{◌≡◌, ◌≤◌, None, IfOk, IfErr, length, drop};
-ghost use Rattle.igvm_headers.specs.Causes.{Rose};
+ghost use Rattle.igvm_headers.specs.FaultCounts.{Rose};
 ghost use Rattle.igvm_outside.specs.Files.{Nothing};
 
 use crate::Shelf;
@@ -55,7 +55,7 @@ fn fault(faults: &mut u64) -> Failed
     Failed
 }
 
-// Reads into a space of its own first, since a read may leave anything behind the bytes that it
+// Reads into a space of its own first, since a read may leave anything after the bytes that it
 // answers.
 fn read_some<F: Read>(file: &mut F, space: &mut [u8], buf: &mut [u8]) -> io::Result<usize>
     ensures within { IfOk result (λ n. n ≤ length buf.new) }
@@ -82,7 +82,7 @@ fn write_some<F: Write>(file: &mut F, piece: &[u8]) -> io::Result<usize>
 
 impl<R: Files> Shelf for StdShelf<R> {
     ghost use Rattle.std.specs.Prelude.{None};
-    ghost use Rattle.igvm_outside.specs.Streams.{state_of_stream};
+    ghost use Rattle.igvm_outside.specs.RealFiles.{state_of_stream};
 
     ghost told = { λ s. None };
 

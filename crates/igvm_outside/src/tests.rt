@@ -111,6 +111,25 @@ fn pieces_are_written_up_to_a_fault(rt: HostRuntime) -> Result<(), Fail> {
     Ok(())
 }
 
+#[test]
+fn a_file_is_streamed(rt: HostRuntime) -> Result<(), Fail> {
+    let mut shelf = shelf_of_one(rt.alloc())?;
+    shelf.set_piece(4);
+    shelf.create("b")?;
+    write_piece(&mut shelf, "b", b"newnews")?;
+    write_piece(&mut shelf, "b", b"")?;
+    write_piece(&mut shelf, "b", b"est")?;
+    shelf.close("b")?;
+    assert_eq!(rt;
+        read_all(rt.alloc(), &mut shelf, "b", 10)?.as_slice(),
+        b"newnewsest".as_slice()
+    );
+    // Laws: nothing runs.
+    reads_compose::<MemShelf>();
+    writes_compose::<MemShelf>();
+    Ok(())
+}
+
 // The bytes are those of the numbers 0, 1 and 2.
 #[test]
 fn a_file_is_made(rt: HostRuntime) -> Result<(), Fail> {

@@ -7,6 +7,7 @@ abbrev pub invariant-pieces : goal.invariant-pieces
 invariant-pieces g l = record {
   within : l.at ≤ length l.text;
   put : g.O.Sink.bytes l.sink ≡ gained (g.O.Sink.bytes l.fn.sink) (take l.at l.text);
+  no_fault : g.O.Sink.faults l.sink ≡ g.O.Sink.faults l.fn.sink;
   counted : g.O.Sink.faults l.fn.sink ≤ g.O.Sink.faults l.sink;
 }
 

@@ -1,18 +1,17 @@
 use Rattle.std.proofs.Common.{length, ◌≤◌, ◌+◌, ◌-◌, ◌≡◌}
-use Rattle.igvm_outside.specs.Files.{NeverFalls}
-use Rattle.igvm_outside.specs.Whole.{HasGiven}
+use Rattle.igvm_outside.specs.ReadProgress.{HasGiven}
+use Rattle.igvm_outside.specs.ShelfCalls.{OnlyReads}
 use Rattle.igvm_outside.proofs.reading.read_all.Given as goal
 
 -- each fact is one of the shelf as it is now, and one equation ties it to the shelf at entry
 abbrev pub invariant-reads : goal.invariant-reads
 invariant-reads g l = record {
-  given : HasGiven g.S.Shelf.told g.S.Shelf.state g.S.Shelf.given l.shelf l.name l.bytes.items;
+  given : HasGiven g.S.Shelf l.shelf l.name l.bytes.items;
   within : length l.bytes.items ≤ l.limit + 1;
   small : l.limit ≤ 536870912;
   room : length l.buffer ≡ 65536;
-  kept : g.S.Shelf.told l.shelf ≡ g.S.Shelf.told l.fn.shelf;
-  reads : NeverFalls (g.S.Shelf.read_faults l.fn.shelf) (g.S.Shelf.read_faults l.shelf);
-  writes : NeverFalls (g.S.Shelf.write_faults l.fn.shelf) (g.S.Shelf.write_faults l.shelf);
+  no_fault : g.S.Shelf.read_faults l.shelf l.name ≡ g.S.Shelf.read_faults l.fn.shelf l.name;
+  only : OnlyReads g.S.Shelf l.fn.shelf l.shelf;
 }
 
 abbrev pub decreases-reads : goal.decreases-reads

@@ -26,7 +26,7 @@ use denote.Steps.{nothing, heard}
 use denote.Struct.Lending.{lent_out}
 use denote.Triple.Entry.{on_entry}
 use denote.Triple.Walked.{Stays, walk_of, says, stay_dropped, Goes-dropped, ends_at}
-use Rattle.guest_region.specs.Parts.{part}
+use Rattle.guest_region.specs.ByteSlices.{part}
 use Rattle.guest_region.specs.Ownership.{bytes_lent}
 use Rattle.guest_region.specs.contracts.block.RawBlock as B
 use Rattle.guest_region.specs.contracts.block.RawBlock.part as f

@@ -34,8 +34,8 @@ use denote.Steps.{nothing, heard, opens, peeks}
 use denote.Triple.Entry.{on_entry}
 use denote.Triple.Walked.{Stays, walk_of, says, stay_dropped, Goes-dropped, Goes-spent_ref, ends_at}
 use Rattle.guest_region.specs.declared.block.RawBlock.{RawBlock}
-use Rattle.guest_region.specs.Parts.{part, with_part}
-use Rattle.guest_region.specs.Lends.{with_bytes}
+use Rattle.guest_region.specs.ByteSlices.{part, with_part}
+use Rattle.guest_region.specs.LendsPart.{with_bytes}
 use Rattle.guest_region.specs.Ownership.{bytes_own}
 use Rattle.guest_region.specs.contracts.block.RawBlock as B
 use Rattle.guest_region.specs.contracts.block.RawBlock.part_mut as f

@@ -1,6 +1,6 @@
 -- The part of the block that is copied is the slot's page.
 use Rattle.std.proofs.Common.{◌*◌, Some, sym, ap, ◌∙◌}
-use Rattle.guest_region.specs.Parts.{part}
+use Rattle.guest_region.specs.ByteSlices.{part}
 use Rattle.guest_region.proofs.Regions.{page_within, page_at}
 use Rattle.guest_region.proofs.region.GuestRegion.copy_out.Goals as goal
 

@@ -1,7 +1,7 @@
 -- A block of zeros is a region of zero pages.
 use Rattle.std.proofs.Common.{ap, ◌∙◌}
-use Rattle.guest_region.specs.Slots.{pages_of}
-use Rattle.guest_region.proofs.Slots.{pieces-replicate}
+use Rattle.guest_region.specs.PagesOf.{pages_of}
+use Rattle.guest_region.proofs.PagesOf.{pieces-replicate}
 use Rattle.guest_region.proofs.region.GuestRegion.new.Goals as goal
 
 pub returns-in-Ok : goal.returns-in-Ok

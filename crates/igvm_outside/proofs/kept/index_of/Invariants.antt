@@ -1,7 +1,0 @@
-use Rattle.std.proofs.Common.{◌≢◌, ℕ, ◌<◌}
-use Rattle.igvm_outside.specs.Kept.{name_at}
-use Rattle.igvm_outside.proofs.kept.index_of.Given as goal
-
--- the files so far have other names
-abbrev pub invariant-files : goal.invariant-files
-invariant-files l = (k : ℕ) → k < l.at → name_at l.files k ≢ l.name

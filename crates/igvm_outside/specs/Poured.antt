@@ -1,7 +1,0 @@
--- What contracts see of an output in memory.
-use Rattle.std.specs.Prelude.{ℕ, List}
-use Rattle.igvm_outside.specs.Script.{Script}
-
-pub record Poured : Type 0 where
-  pub bytes : List ℕ
-  pub script : Script
