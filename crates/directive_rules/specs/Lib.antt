@@ -1,2 +1,2 @@
 pub mod Tags
-pub use Rattle.igvm_headers.specs.Kinds
+pub use Rattle.igvm_headers.specs.PlatformKinds

@@ -4,10 +4,11 @@ use Rattle.std.proofs.lemmas.Bool.{cases_eq}
 use Rattle.std.proofs.lemmas.List.{length-set, get_or-set_same, get_or-set_other}
 use Rattle.igvm_headers.specs.declared.param_kind.ParamKind.{ParamKind}
 use Rattle.igvm_headers.specs.declared.param_kind.ParamKind.TheVariants.{VpCount, Srat, Madt, MmioRanges, MemoryMap, CommandLine, Slit, Pptt, DeviceTree, EnvironmentInfo}
-use Rattle.host_set.specs.Hosts.{params, param_number, HostValues, value_of, with_value, AreWithin}
+use Rattle.host_set.specs.Hosts.{HostValues, value_of, with_value, AreWithin}
+use Rattle.igvm_headers.specs.ParamKinds.{param_kinds, param_number}
 
 -- the kind of a number
-numbered : (kind : ParamKind) → get_or params (param_number kind) VpCount ≡ kind
+numbered : (kind : ParamKind) → get_or param_kinds (param_number kind) VpCount ≡ kind
 numbered VpCount = refl
 numbered Srat = refl
 numbered Madt = refl
@@ -21,7 +22,7 @@ numbered EnvironmentInfo = refl
 
 -- kinds differ in their numbers
 pub apart : (one other : ParamKind) → other ≢ one → param_number other ≢ param_number one
-apart one other differ same = differ (sym (numbered other) ∙ ap (λ n. get_or params n VpCount) same ∙ numbered one)
+apart one other differ same = differ (sym (numbered other) ∙ ap (λ n. get_or param_kinds n VpCount) same ∙ numbered one)
 
 pub value_put : (host : HostValues) (kind : ParamKind) (value : List ℕ) → param_number kind < length host.values → value_of (with_value kind value host) kind ≡ value
 value_put host kind value within = get_or-set_same host.values (param_number kind) value [] within

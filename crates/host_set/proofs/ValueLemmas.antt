@@ -3,13 +3,13 @@ use Rattle.std.proofs.Common.{◌≡◌, ◌≢◌, ℕ, zero, suc, ◌+◌, ◌
 use Rattle.igvm_headers.specs.declared.param_kind.ParamKind.{ParamKind}
 use Rattle.std.proofs.Math.Seq.{drop-cons, take-suc-set}
 use Rattle.std.proofs.lemmas.List.{take_all, length-set}
-use Rattle.igvm_headers.specs.Names.{param_text}
+use Rattle.igvm_headers.specs.ParamKinds.{param_text, param_kinds, param_number}
 use Rattle.serde_json.specs.Data.{Data}
 use Rattle.serde_json.specs.Find.{get}
 use Rattle.host_set.specs.declared.refusal.HostPart.TheVariants as part
 use Rattle.host_set.specs.declared.refusal.HostRefusal.{HostRefusal}
 use Rattle.host_set.specs.declared.refusal.HostRefusal.TheVariants as refusal
-use Rattle.host_set.specs.Hosts.{HostValues, no_values, params, param_number, with_value}
+use Rattle.host_set.specs.Hosts.{HostValues, no_values, with_value}
 use Rattle.host_set.specs.Descriptions.{◌>>=◌, field, bytes_at, collected, param_value, param_values}
 
 pub value_is : (json : Data) (kind : ParamKind) (number : ℕ) (name : List ℕ) (refused : HostRefusal) (found : Option Data)
@@ -52,11 +52,11 @@ no_front (Err e) = refl
 
 -- the values of the kinds from a place on
 unfoldable pub values_from : Data → ℕ → Result (List (List ℕ)) HostRefusal
-values_from json i = collected (map (param_value json) (drop i params))
+values_from json i = collected (map (param_value json) (drop i param_kinds))
 
-at_kind : (json : Data) (i : ℕ) (d : ParamKind) → i < 10 → values_from json i ≡ (param_value json (get_or params i d) >>= λ first. values_from json (suc i) >>= λ rest. Ok (first ∷ rest))
+at_kind : (json : Data) (i : ℕ) (d : ParamKind) → i < 10 → values_from json i ≡ (param_value json (get_or param_kinds i d) >>= λ first. values_from json (suc i) >>= λ rest. Ok (first ∷ rest))
 unfolding values_from
-at_kind json i d few = ap (λ kinds. collected (map (param_value json) kinds)) (drop-cons params i d few)
+at_kind json i d few = ap (λ kinds. collected (map (param_value json) kinds)) (drop-cons param_kinds i d few)
 
 pub starts : (json : Data) (values : List (List ℕ)) → with_front (take 0 values) (values_from json 0) ≡ param_values json
 unfolding param_values values_from
@@ -66,7 +66,7 @@ pub ends : (json : Data) (values : List (List ℕ)) → length values ≡ 10 →
 unfolding values_from
 ends json values count same = sym same ∙ ap (λ vs. Ok vs) (append-nil (take 10 values) ∙ take_all 10 values (omega arith))
 
-pub goes_on : (json : Data) (i : ℕ) (d : ParamKind) (value : List ℕ) (values : List (List ℕ)) → i < 10 → length values ≡ 10 → param_value json (get_or params i d) ≡ Ok value
+pub goes_on : (json : Data) (i : ℕ) (d : ParamKind) (value : List ℕ) (values : List (List ℕ)) → i < 10 → length values ≡ 10 → param_value json (get_or param_kinds i d) ≡ Ok value
     → with_front (take i values) (values_from json i) ≡ param_values json → with_front (take (suc i) (set values i value)) (values_from json (suc i)) ≡ param_values json
 goes_on json i d value values few count is same =
     let there : i < length values = omega arith in
@@ -74,13 +74,13 @@ goes_on json i d value values few count is same =
     ap (λ front. with_front front (values_from json (suc i))) (take-suc-set values i value there) ∙ sym (front_twice (take i values) value (values_from json (suc i)))
     ∙ ap (with_front (take i values)) (sym next) ∙ same
 
-pub refused : (json : Data) (i : ℕ) (d : ParamKind) (e : HostRefusal) (values : List (List ℕ)) → i < 10 → param_value json (get_or params i d) ≡ Err e
+pub refused : (json : Data) (i : ℕ) (d : ParamKind) (e : HostRefusal) (values : List (List ℕ)) → i < 10 → param_value json (get_or param_kinds i d) ≡ Err e
     → with_front (take i values) (values_from json i) ≡ param_values json → param_values json ≡ Err e
 refused json i d e values few is same =
     let next : values_from json i ≡ Err e = at_kind json i d few ∙ ap (λ r. r >>= λ first. values_from json (suc i) >>= λ rest. Ok (first ∷ rest)) is in
     sym same ∙ ap (with_front (take i values)) next
 
-pub numbered_at : (i : ℕ) (d : ParamKind) → i < 10 → param_number (get_or params i d) ≡ i
+pub numbered_at : (i : ℕ) (d : ParamKind) → i < 10 → param_number (get_or param_kinds i d) ≡ i
 numbered_at zero d few = refl
 numbered_at (suc zero) d few = refl
 numbered_at (suc (suc zero)) d few = refl
@@ -105,8 +105,8 @@ count_stays host new kind value count is =
     let P : HostValues → Type 0 = λ h. length h.values ≡ 10 in
     subst P (sym is) (length-set host.values (param_number kind) value ∙ count)
 
-pub values_go_on : (json : Data) (i n : ℕ) (d : ParamKind) (value : List ℕ) (host new : HostValues) → n ≡ i + 1 → i < 10 → length host.values ≡ 10 → param_value json (get_or params i d) ≡ Ok value
-    → new ≡ with_value (get_or params i d) value host
+pub values_go_on : (json : Data) (i n : ℕ) (d : ParamKind) (value : List ℕ) (host new : HostValues) → n ≡ i + 1 → i < 10 → length host.values ≡ 10 → param_value json (get_or param_kinds i d) ≡ Ok value
+    → new ≡ with_value (get_or param_kinds i d) value host
     → with_front (take i host.values) (values_from json i) ≡ param_values json → with_front (take n new.values) (values_from json n) ≡ param_values json
 values_go_on json i n d value host new next few count is changed same =
     let P : List (List ℕ) → Type 0 = λ values. with_front (take (suc i) values) (values_from json (suc i)) ≡ param_values json in

@@ -1,7 +1,7 @@
 -- What a host description says, or the first refusal of it.
 use Rattle.std.specs.Prelude.{ℕ, ◌&&◌, Bool, if◌then◌else◌, codes, List, [], ◌∷◌, map, is_some, ok_or, Option, Some, None, Result, Ok, Err}
 use Rattle.igvm_headers.specs.declared.param_kind.ParamKind.{ParamKind}
-use Rattle.igvm_headers.specs.Names.{param_text}
+use Rattle.igvm_headers.specs.ParamKinds.{param_text, param_kinds, param_number}
 use Rattle.serde_json.specs.Data.{Data, Items, no_items, item}
 use Rattle.serde_json.specs.Events.{items_len}
 use Rattle.serde_json.specs.Find.{get, as_array, as_object}
@@ -12,8 +12,8 @@ use Rattle.host_set.specs.declared.refusal.HostPart.{HostPart}
 use Rattle.host_set.specs.declared.refusal.HostPart.TheVariants as part
 use Rattle.host_set.specs.declared.refusal.HostRefusal.{HostRefusal}
 use Rattle.host_set.specs.declared.refusal.HostRefusal.TheVariants as refusal
-use Rattle.host_set.specs.Bytes.{bytes_of}
-use Rattle.host_set.specs.Hosts.{HostValues, no_values, params, param_number}
+use Rattle.host_set.specs.HexBytes.{bytes_of}
+use Rattle.host_set.specs.Hosts.{HostValues, no_values}
 use Rattle.host_set.specs.Plans.{placed_count, unless_all}
 
 -- what is read, and then what that leads to; the first refusal stands
@@ -89,13 +89,13 @@ collected (value ∷ values) = do
 
 -- the values of all parameters, in the order of their numbers
 unfoldable pub param_values : Data → Result (List (List ℕ)) HostRefusal
-param_values json = collected (map (param_value json) params)
+param_values json = collected (map (param_value json) param_kinds)
 
 -- the values of an object that has no other keys
 abbrev pub known_values : Data → Result (List (List ℕ)) HostRefusal
 known_values json = do
   values ← param_values json
-  if has_only (map param_text params) json then Ok values else Err (field part.Values 10)
+  if has_only (map param_text param_kinds) json then Ok values else Err (field part.Values 10)
 
 -- the values of what stands at `values`
 abbrev pub values_in : Option Data → Result (List (List ℕ)) HostRefusal

@@ -1,24 +1,7 @@
 -- The values of a host.
-use Rattle.std.specs.Prelude.{ℕ, ◌≤◌, ◌≡◌, List, [], ◌∷◌, length, slice_index_or, slice_set, map}
+use Rattle.std.specs.Prelude.{ℕ, ◌≤◌, ◌≡◌, List, [], length, slice_index_or, slice_set, map}
 use Rattle.igvm_headers.specs.declared.param_kind.ParamKind.{ParamKind}
-use Rattle.igvm_headers.specs.declared.param_kind.ParamKind.TheVariants.{VpCount, Srat, Madt, MmioRanges, MemoryMap, CommandLine, Slit, Pptt, DeviceTree, EnvironmentInfo}
-
--- all parameters, in the order of their numbers
-abbrev pub params : List ParamKind
-params =
-    VpCount ∷ Srat ∷ Madt ∷ MmioRanges ∷ MemoryMap ∷ CommandLine ∷ Slit ∷ Pptt ∷ DeviceTree ∷ EnvironmentInfo ∷ []
-
-abbrev pub param_number : ParamKind → ℕ
-param_number VpCount = 0
-param_number Srat = 1
-param_number Madt = 2
-param_number MmioRanges = 3
-param_number MemoryMap = 4
-param_number CommandLine = 5
-param_number Slit = 6
-param_number Pptt = 7
-param_number DeviceTree = 8
-param_number EnvironmentInfo = 9
+use Rattle.igvm_headers.specs.ParamKinds.{param_kinds, param_number}
 
 -- the value of each parameter, in the order of their numbers, and what the pages of secrets and of
 -- CPUID begin with
@@ -29,7 +12,7 @@ pub record HostValues : Type 0 where
 
 -- all are empty
 abbrev pub no_values : HostValues
-no_values = record { values = map (λ _. []) params; secrets = []; cpuid = [] }
+no_values = record { values = map (λ _. []) param_kinds; secrets = []; cpuid = [] }
 
 -- the value of a parameter
 abbrev pub value_of : HostValues → ParamKind → List ℕ

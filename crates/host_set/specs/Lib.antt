@@ -2,8 +2,10 @@ pub mod Plans
 pub mod PlanRules
 pub mod Hosts
 pub mod HostViews
-pub mod Bytes
+pub mod HexBytes
 pub mod Descriptions
-pub use Rattle.igvm_headers.specs.Names
+pub use Rattle.igvm_headers.specs.PlatformKinds
+pub use Rattle.igvm_headers.specs.PageKinds
+pub use Rattle.igvm_headers.specs.ParamKinds
 pub use Rattle.json_forms.specs.Forms
 pub use Rattle.json_forms.specs.Texts

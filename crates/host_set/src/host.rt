@@ -3,7 +3,6 @@ ghost use Rattle.std.specs.Prelude.{◌≡◌, ◌≢◌, ◌≤◌, length, IfO
 ghost use Rattle.igvm_headers.specs.declared.param_kind.ParamKind.{ParamKind};
 ghost use Rattle.host_set.specs.Hosts.{no_values, value_of, with_value, with_secrets, with_cpuid};
 
-use crate::number::param_number;
 use igvm_headers::{Memory, ParamKind};
 use std::alloc::Global;
 use std::marker::Model;
@@ -96,7 +95,7 @@ impl HostSet {
         ensures value { result.now ≡ value_of self.now kind }
         ensures size { length result.now ≤ 1048576 }
     {
-        self.values[param_number(kind)].as_slice()
+        self.values[kind.number()].as_slice()
     }
 
     /// What the pages of secrets begin with.
@@ -123,7 +122,7 @@ impl HostSet {
             → value_of self.new other ≡ value_of self.old other }
         ensures changed { self.new ≡ with_value kind value.items self.old }
     {
-        let number = param_number(kind);
+        let number = kind.number();
         self.values[number] = value;
     }
 

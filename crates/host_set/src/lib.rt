@@ -1,19 +1,18 @@
 //! What a host tells a loader: the memory that the guest may have, and the host's values.
 #![tactic(auto)]
 
-mod covering;
+mod coverage;
 mod fields;
 mod host;
 mod laws;
-mod memory;
-mod number;
 mod plan;
+mod plan_json;
 mod range;
 mod reading;
 mod refusal;
 #[cfg(test)]
 mod tests;
-mod values;
+mod values_json;
 
 pub use host::HostSet;
 pub use laws::first_bad_range;

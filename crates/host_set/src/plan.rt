@@ -2,7 +2,7 @@
 ghost use Rattle.std.specs.Prelude.{◌≡◌, ◌↔◌, ◌≤◌, None, Some, IfOk, IfErr, IsTrue, length, take};
 ghost use Rattle.host_set.specs.Plans.{Covers, bad_range, is_covered, placed_behind};
 
-use crate::covering::first_bare;
+use crate::coverage::first_bare;
 use crate::range::PlanRange;
 use std::marker::Model;
 

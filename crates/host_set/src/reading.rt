@@ -6,10 +6,10 @@ ghost use Rattle.host_set.specs.Descriptions.{page_bytes, parts_of};
 
 use crate::fields::bytes_at;
 use crate::host::HostSet;
-use crate::memory::plan_in;
 use crate::plan::MemoryPlan;
+use crate::plan_json::plan_in;
 use crate::refusal::{HostPart, HostRefusal};
-use crate::values::values_in;
+use crate::values_json::values_in;
 use json_forms::{JsonRefusal, has_only, json_of};
 use serde_json::Value;
 use std::alloc::Global;

@@ -1,2 +1,3 @@
 pub mod FormLemmas
+pub mod PlainTexts
 pub mod TextLemmas

@@ -1,2 +1,4 @@
+pub mod Bind
 pub mod Forms
+pub mod Plain
 pub mod Texts

@@ -4,6 +4,7 @@
 
 mod addresses;
 mod keys;
+mod laws;
 mod numbers;
 #[cfg(test)]
 mod tests;
@@ -11,5 +12,6 @@ mod texts;
 
 pub use addresses::address;
 pub use keys::has_only;
+pub use laws::plain_reads_back;
 pub use numbers::{byte, short, word};
 pub use texts::{JsonRefusal, json_of};

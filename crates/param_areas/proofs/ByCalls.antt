@@ -8,11 +8,11 @@ use Rattle.std.proofs.lemmas.List.{append-nil, length-map}
 use Rattle.std.proofs.lemmas.List.Sums.{sum_by-cons}
 use Rattle.std.proofs.lemmas.List.Folds.{find-append}
 use Rattle.igvm_image.specs.Data.{Data}
-use Rattle.param_areas.specs.Space.{Area, Space, area_at, bytes_in, bytes_of, size_of_all}
-use Rattle.param_areas.specs.Told.{Setting, Told, Shows, shown, declared, told_at, told_size, told_byte, told_change, told_taken, told_value, byte_in}
+use Rattle.param_areas.specs.AreaBytes.{Area, Space, area_at, bytes_in, bytes_of, size_of_all}
+use Rattle.param_areas.specs.AreaHistory.{Setting, Told, Shows, shown, declared, told_at, told_size, told_byte, told_change, told_taken, told_value, byte_in}
 use Rattle.param_areas.specs.Calls.{Call, Declare, Set, Take, AreInOrder, told_by, told_call, byte_under, content_in, content_of, first_of_contents, is_taken, settings_of, told_of}
 use Rattle.param_areas.proofs.Changes.{find_changed, find_other, find_shown}
-use Rattle.param_areas.proofs.Tellings.{length_area_bytes, bytes_of_shown}
+use Rattle.param_areas.proofs.Histories.{length_area_bytes, bytes_of_shown}
 
 found_same : (change : Told → Told) → ((t : Told) → (change t).index ≡ t.index) → (told : List Told) (area : ℕ) → told_at (told_change change area told) area ≡ option_map change (told_at told area)
 found_same change keeps told area =

@@ -2,7 +2,7 @@
 use Rattle.std.proofs.Common.{◌≡◌, ℕ, ◌<◌, List, [], ◌∷◌, Bool, true, false, cond, Some, None, length, get_or, map, find, refl, ap, sym, ◌∙◌, arith, zero, suc}
 use Rattle.std.specs.Option.{option_map}
 use Rattle.std.proofs.Math.ListN.{set}
-use Rattle.param_areas.specs.Space.{change_first}
+use Rattle.param_areas.specs.AreaBytes.{change_first}
 
 -- found among what is shown is what shows what is found
 pub find_shown : {X Y : Type 0} (g : X → Y) (p : X → Bool) (q : Y → Bool) → ((x : X) → q (g x) ≡ p x) → (xs : List X) → find q (map g xs) ≡ option_map g (find p xs)

@@ -4,7 +4,7 @@ use Rattle.std.proofs.lemmas.List.Sums.{sum_by-cons}
 use Rattle.igvm_headers.specs.Numbers.{slice}
 use Rattle.std.specs.Option.{option_map}
 use Rattle.std.proofs.lemmas.List.{map-append, length-map}
-use Rattle.param_areas.specs.Space.{Area, Space, IsOpen, area_at, bytes_in, bytes_of, change_first, with_area, with_change, with_taken, with_value, written, size_of_all}
+use Rattle.param_areas.specs.AreaBytes.{Area, Space, IsOpen, area_at, bytes_in, bytes_of, change_first, with_area, with_change, with_taken, with_value, written, size_of_all}
 use Rattle.param_areas.specs.Slots.{area_in, LaidOut}
 use Rattle.param_areas.specs.declared.slot.Slot.{Slot}
 use Rattle.param_areas.proofs.Written.{slice_written_before, slice_written_behind, slice_written_in, slice_written_same, length_slice, slice_of_slice}

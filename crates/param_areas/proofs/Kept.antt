@@ -3,7 +3,7 @@ use Rattle.std.proofs.Common.{◌≡◌, ℕ, ◌+◌, ◌≤◌, List, Option, 
 use Rattle.std.specs.Option.{option_map}
 use Rattle.std.proofs.lemmas.Bool.{eqb-true, ne_eqb}
 use Rattle.std.proofs.lemmas.Bool.Decides.{eqb_tells}
-use Rattle.param_areas.specs.Space.{Area, Space, IsOpen, area_at, bytes_in, bytes_of, change_first, with_change, with_taken, with_value}
+use Rattle.param_areas.specs.AreaBytes.{Area, Space, IsOpen, area_at, bytes_in, bytes_of, change_first, with_change, with_taken, with_value}
 use Rattle.param_areas.proofs.Changes.{find_changed, find_other}
 use Rattle.param_areas.proofs.Written.{length_written}
 

@@ -1,6 +1,6 @@
 pub mod Written
 pub mod Changes
 pub mod InBuffer
-pub mod Tellings
+pub mod Histories
 pub mod Kept
 pub mod ByCalls

@@ -5,7 +5,7 @@ use Rattle.std.proofs.lemmas.Grind.{common_steps, same_number_lists}
 use Rattle.std.proofs.lemmas.Bool.Decides.{leb_tells}
 use borrow.Rule.Slice.PartMut.{put_mid}
 use Rattle.igvm_headers.specs.Numbers.{slice}
-use Rattle.param_areas.specs.Space.{written}
+use Rattle.param_areas.specs.AreaBytes.{written}
 
 pub length_written : (place : ℕ) (value bytes : List ℕ) → place + length value ≤ length bytes → length (written place value bytes) ≡ length bytes
 unfolding written

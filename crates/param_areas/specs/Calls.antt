@@ -2,7 +2,7 @@
 use Rattle.std.specs.Prelude.{ℕ, List, [], ◌∷◌, ◌++◌, Bool, false, Option, Some, None, find, fold, IsSome, ◌==◌, if◌then◌else◌}
 use Rattle.std.specs.List.{filter_map, list_any}
 use Rattle.igvm_image.specs.Data.{Data}
-use Rattle.param_areas.specs.Told.{Setting, Told, area_byte, declared, told_change, told_taken, told_value}
+use Rattle.param_areas.specs.AreaHistory.{Setting, Told, area_byte, declared, told_change, told_taken, told_value}
 
 -- a call that declares an area, sets a value in one, or takes one
 pub data Call : Type 0 where

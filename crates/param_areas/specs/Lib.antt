@@ -1,5 +1,5 @@
-pub mod Space
-pub mod Told
+pub mod AreaBytes
+pub mod AreaHistory
 pub mod Slots
 pub mod Calls
 pub use Rattle.igvm_image.specs.Data

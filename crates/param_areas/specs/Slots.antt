@@ -1,7 +1,7 @@
 -- How the areas stand in one buffer, one behind the other.
 use Rattle.std.specs.Prelude.{ℕ, true, ◌+◌, ◌≡◌, ◌≤◌, List, [], ◌∷◌, map}
 use Rattle.igvm_headers.specs.Numbers.{slice}
-use Rattle.param_areas.specs.Space.{Area, Space}
+use Rattle.param_areas.specs.AreaBytes.{Area, Space}
 use Rattle.param_areas.specs.declared.slot.Slot.{Slot}
 
 -- the area whose bytes a slot has in the buffer

@@ -1,10 +1,10 @@
 //! The parameter areas of one load (`igvm_defs`, IGVM_VHS_PARAMETER_AREA and IGVM_VHS_PARAMETER).
 ghost use Rattle.std.specs.Prelude.{◌≡◌, ◌<◌, ◌≤◌, ◌+◌, ◌*◌, ℕ, List, [], ◌∷◌, ◌++◌, length, slice_index, IfOk};
 ghost use Rattle.igvm_headers.specs.Numbers.{slice};
-ghost use Rattle.param_areas.specs.Space.{IsNew, IsOpen, bytes_of, size_of_all, with_area, with_change, with_value, with_taken};
-ghost use Rattle.param_areas.specs.Told.{Told, Shows, content_bytes, declared, told_change, told_value, told_taken, told_byte};
+ghost use Rattle.param_areas.specs.AreaBytes.{IsNew, IsOpen, bytes_of, size_of_all, with_area, with_change, with_value, with_taken};
+ghost use Rattle.param_areas.specs.AreaHistory.{Told, Shows, content_bytes, declared, told_change, told_value, told_taken, told_byte};
 
-use crate::filling::{write_pages, write_value};
+use crate::area_buffer::{write_pages, write_value};
 use crate::slot::{Slot, mark_taken, slot_of};
 use igvm_headers::Memory;
 use igvm_image::DataView;
@@ -23,7 +23,7 @@ pub struct Areas {
 
 impl Model for Areas {
     ghost use Rattle.std.specs.Prelude.{take, vec_len};
-    ghost use Rattle.param_areas.specs.Space.{Space};
+    ghost use Rattle.param_areas.specs.AreaBytes.{Space};
 
     ghost Value = { Space };
 

@@ -1,8 +1,8 @@
 //! What holds of every list of calls, each law as the contract of a function that does nothing.
 ghost use Rattle.std.specs.Prelude.{◌≡◌, ◌+◌, ◌*◌, ◌++◌, ◌↔◌, ℕ, List, [], ◌∷◌, Option, Some, None, false, length, sum_by};
 ghost use Rattle.std.specs.Option.{option_map};
-ghost use Rattle.param_areas.specs.Space.{Space, IsNew, IsOpen, bytes_of, size_of_all};
-ghost use Rattle.param_areas.specs.Told.{Told, Shows, told_byte, told_size, told_at};
+ghost use Rattle.param_areas.specs.AreaBytes.{Space, IsNew, IsOpen, bytes_of, size_of_all};
+ghost use Rattle.param_areas.specs.AreaHistory.{Told, Shows, told_byte, told_size, told_at};
 ghost use Rattle.param_areas.specs.Calls.{Call, AreInOrder, told_by, told_call, byte_under, content_of, settings_of, told_of};
 
 /// After any calls, each byte of an area is that of the last value set that covers it, else the

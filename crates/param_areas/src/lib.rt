@@ -1,8 +1,8 @@
 //! Parameter areas of a load: reserved at once, declared, set, lent page by page, and taken.
 #![tactic(auto)]
 
+mod area_buffer;
 mod areas;
-mod filling;
 mod laws;
 mod slot;
 #[cfg(test)]

@@ -1,6 +1,6 @@
 //! Where the parameter areas stand in the buffer (`igvm_defs`, IGVM_VHS_PARAMETER_AREA).
 ghost use Rattle.std.specs.Prelude.{◌≡◌, ◌==◌, find, IsSome};
-ghost use Rattle.param_areas.specs.Space.{change_first};
+ghost use Rattle.param_areas.specs.AreaBytes.{change_first};
 ghost use Rattle.param_areas.specs.Slots.{marked};
 
 /// An area's index, the place of its first byte in the buffer, its size in bytes, and whether it is

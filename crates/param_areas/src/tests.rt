@@ -1,6 +1,6 @@
 //! Areas of an image, and a table of random values beside a plain model.
 ghost use Rattle.std.specs.Prelude.{◌≡◌, ◌<◌, ◌≤◌, ◌+◌, ◌*◌, IfOk, length};
-ghost use Rattle.param_areas.specs.Space.{IsOpen, bytes_of};
+ghost use Rattle.param_areas.specs.AreaBytes.{IsOpen, bytes_of};
 
 use super::*;
 use igvm_headers::{Memory, crc_begin, crc_end, crc_more};
@@ -25,7 +25,7 @@ fn image(alloc: Global) -> Result<Vec<u8>, AllocError> {
 }
 
 /// Areas 0 and 1 with these contents.
-#[tactic(auto, using(crate::proofs::Tellings::length_content_bytes))]
+#[tactic(auto, using(crate::proofs::Histories::length_content_bytes))]
 fn areas_of(alloc: Global, zeros: DataView<'_>, ones: DataView<'_>) -> Result<Areas, Memory>
     requires small { zeros.pages ≡ 1 }
     requires large { ones.pages ≡ 2 }

@@ -1,4 +1,4 @@
 pub mod Masks
 pub mod Platforms
 pub mod PlatformsLaws
-pub use Rattle.igvm_headers.specs.Kinds
+pub use Rattle.igvm_headers.specs.PlatformKinds

@@ -1,6 +1,6 @@
 //! Compatibility masks (`igvm_defs`, compatibility_mask).
 ghost use Rattle.std.specs.Prelude.{◌≡◌};
-ghost use Rattle.platform_masks.specs.Masks.{applies as applies_to, mask_of as own_mask};
+ghost use Rattle.platform_masks.specs.Masks.{applies as applies_to, shares_bit};
 
 use igvm_headers::Header;
 
@@ -8,30 +8,14 @@ use igvm_headers::Header;
 pub fn applies(h: &Header, mask: u32) -> bool
     ensures { result ≡ applies_to h.now mask }
 {
-    match h {
-        Header::Area { .. } | Header::Param { .. } => true,
-        _ => match mask_of(h) {
-            Some(own) => own & mask != 0,
-            None => false,
-        },
-    }
+    h.is_for_all() || shares_bit(h.mask(), mask)
 }
 
-/// The header's own mask, where its record has one.
-fn mask_of(h: &Header) -> Option<u32>
-    ensures { result ≡ own_mask h.now }
+/// A mask, where there is one, has a bit in common with another.
+fn shares_bit(mask: Option<u32>, other: u32) -> bool
+    ensures { result ≡ shares_bit mask other }
 {
-    match *h {
-        Header::Platform { mask, .. }
-        | Header::Policy { mask, .. }
-        | Header::Page { mask, .. }
-        | Header::Insert { mask, .. }
-        | Header::Context { mask, .. }
-        | Header::Required { mask, .. }
-        | Header::ErrorRange { mask, .. }
-        | Header::IdBlock { mask, .. } => Some(mask),
-        Header::Area { .. } | Header::Param { .. } | Header::Carried { .. } => None,
-    }
+    mask.is_some_and(|own| own & other != 0)
 }
 
 #[cfg(test)]

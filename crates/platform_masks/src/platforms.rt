@@ -1,7 +1,7 @@
 //! The platforms of an image, in the order of their headers.
 ghost use Rattle.std.specs.Prelude.{◌≡◌, ◌<◌, ◌≤◌, ◌==◌, [], ◌∷◌, ◌++◌, length, position, slice_get, IfSome};
 ghost use Rattle.std.specs.List.{list_any};
-ghost use Rattle.igvm_headers.specs.Kinds.{is_kind, kind_number};
+ghost use Rattle.igvm_headers.specs.PlatformKinds.{is_kind};
 
 use crate::Platform;
 use igvm_headers::PlatformKind;
@@ -103,24 +103,11 @@ fn first_place(platforms: &[Platform], kind: PlatformKind) -> Option<usize>
     platforms.iter().position(|p| is_same(p.kind, kind))
 }
 
+/// Two kinds are one.
 fn is_same(kind: PlatformKind, other: PlatformKind) -> bool
     ensures { result ≡ is_kind kind other }
 {
-    number_of(kind) == number_of(other)
-}
-
-/// The number of a kind in a header.
-fn number_of(kind: PlatformKind) -> u32
-    ensures { result ≡ kind_number kind }
-{
-    match kind {
-        PlatformKind::Native => 0,
-        PlatformKind::VsmIsolation => 1,
-        PlatformKind::SevSnp => 2,
-        PlatformKind::Tdx => 3,
-        PlatformKind::Sev => 4,
-        PlatformKind::SevEs => 5,
-    }
+    kind.number() == other.number()
 }
 
 #[cfg(test)]

@@ -1,6 +1,6 @@
 use Rattle.std.proofs.Common.{◌==◌, ◌∙◌, sym, ap, arith, true, false}
 use Rattle.std.proofs.lemmas.Bool.{eq-eqb}
-use Rattle.param_areas.specs.Space.{change_first}
+use Rattle.param_areas.specs.AreaBytes.{change_first}
 use Rattle.param_areas.specs.declared.slot.Slot.{Slot}
 use Rattle.param_areas.proofs.Changes.{change_at, change_none}
 use Rattle.param_areas.proofs.slot.mark_taken.Goals as goal

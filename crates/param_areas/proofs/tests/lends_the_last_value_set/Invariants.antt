@@ -1,5 +1,5 @@
 use Rattle.std.proofs.Common.{◌≡◌, length}
-use Rattle.param_areas.specs.Space.{IsOpen, bytes_of}
+use Rattle.param_areas.specs.AreaBytes.{IsOpen, bytes_of}
 use Rattle.param_areas.proofs.tests.lends_the_last_value_set.Given as goal
 
 -- both areas stay open, with their sizes

@@ -1,7 +1,8 @@
 use Rattle.std.proofs.Common.{◌≡◌, ◌<◌, ap, sym, ◌∙◌, subst, arith, length, ℕ, map, set, Vec, Global}
 use Rattle.std.proofs.lemmas.List.{map-set}
 use Rattle.igvm_headers.specs.declared.param_kind.ParamKind.{ParamKind}
-use Rattle.host_set.specs.Hosts.{HostValues, AreWithin, with_value, param_number, value_of}
+use Rattle.host_set.specs.Hosts.{HostValues, AreWithin, with_value, value_of}
+use Rattle.igvm_headers.specs.ParamKinds.{param_number}
 use Rattle.host_set.specs.HostViews.{view_of}
 use Rattle.host_set.specs.declared.host.HostSet.TheInside.{Inside}
 use Rattle.host_set.proofs.Changed.{stays_within, value_put, others_stay}
@@ -13,14 +14,14 @@ changed host kind number value is =
 
 pub invariant_of-self : goal.invariant_of-self
 invariant_of-self c =
-    let few : param_number c.args.kind < 10 = subst (λ n. n < 10) c.param_number-number.ensures.number c.param_number-number.ensures.few in
-    subst AreWithin (sym (changed c.self.inside c.args.kind c.param_number-number.result c.args.value c.param_number-number.ensures.number))
+    let few : param_number c.args.kind < 10 = subst (λ n. n < 10) c.number-number.ensures.number c.number-number.ensures.few in
+    subst AreWithin (sym (changed c.self.inside c.args.kind c.number-number.result c.args.value c.number-number.ensures.number))
     (stays_within (view_of c.self.inside) c.args.kind c.args.value.items few c.requires c.self.invariant)
 
 pub returns : goal.returns
 returns c =
-    let now = changed c.self.inside c.args.kind c.param_number-number.result c.args.value c.param_number-number.ensures.number ∙ ap (with_value c.args.kind c.args.value.items) c.self.view_is in
-    let few : param_number c.args.kind < 10 = subst (λ n. n < 10) c.param_number-number.ensures.number c.param_number-number.ensures.few in
+    let now = changed c.self.inside c.args.kind c.number-number.result c.args.value c.number-number.ensures.number ∙ ap (with_value c.args.kind c.args.value.items) c.self.view_is in
+    let few : param_number c.args.kind < 10 = subst (λ n. n < 10) c.number-number.ensures.number c.number-number.ensures.few in
     let count : length c.args.self.now.values ≡ 10 = subst (λ (h : HostValues). length h.values ≡ 10) c.self.view_is c.self.invariant.count in
     let within : param_number c.args.kind < length c.args.self.now.values = omega arith in
     record {

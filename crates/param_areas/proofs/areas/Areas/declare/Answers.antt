@@ -1,12 +1,12 @@
 use Rattle.std.proofs.Common.{◌≡◌, ℕ, ◌+◌, ◌≤◌, ◌<◌, ◌∙◌, ap, sym, length, take, arith, subst, refl, List, false}
 use Rattle.std.proofs.lemmas.List.{with_items_is, take_more_set, length-take-le}
-use Rattle.param_areas.specs.Space.{Space, written}
-use Rattle.param_areas.specs.Told.{content_bytes}
+use Rattle.param_areas.specs.AreaBytes.{Space, written}
+use Rattle.param_areas.specs.AreaHistory.{content_bytes}
 use Rattle.param_areas.specs.Slots.{LaidOut}
 use Rattle.param_areas.specs.declared.slot.Slot.{Slot}
 use Rattle.param_areas.proofs.InBuffer.{used_is, laid_push, space_declared}
 use Rattle.param_areas.proofs.Written.{length_written}
-use Rattle.param_areas.proofs.Tellings.{declare_told, length_content_bytes}
+use Rattle.param_areas.proofs.Histories.{declare_told, length_content_bytes}
 use Rattle.param_areas.proofs.areas.Areas.declare.Goals as goal
 
 pub write_pages-requires : goal.write_pages-requires

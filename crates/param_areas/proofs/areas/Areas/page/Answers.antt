@@ -1,7 +1,7 @@
 use Rattle.std.proofs.Common.{◌≡◌, ◌+◌, ◌-◌, ◌*◌, ◌∙◌, ap, length, take, drop, arith, get_or}
 use Rattle.igvm_headers.specs.Numbers.{slice}
 use Rattle.param_areas.proofs.InBuffer.{slot_where_open, part_within, lent_bytes}
-use Rattle.param_areas.proofs.Tellings.{lent_told}
+use Rattle.param_areas.proofs.Histories.{lent_told}
 use Rattle.param_areas.proofs.areas.Areas.page.Goals as goal
 
 pub slot_of-slot-requires : goal.slot_of-slot-requires

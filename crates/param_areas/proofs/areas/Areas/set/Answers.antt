@@ -1,9 +1,9 @@
 use Rattle.std.proofs.Common.{◌≡◌, ◌+◌, ◌∙◌, ap, sym, length, take, arith}
 use Rattle.std.proofs.lemmas.List.{with_items_is}
-use Rattle.param_areas.specs.Space.{Space, written}
+use Rattle.param_areas.specs.AreaBytes.{Space, written}
 use Rattle.param_areas.proofs.InBuffer.{slot_where_open, part_within, space_set}
 use Rattle.param_areas.proofs.Written.{length_written}
-use Rattle.param_areas.proofs.Tellings.{set_told}
+use Rattle.param_areas.proofs.Histories.{set_told}
 use Rattle.param_areas.proofs.areas.Areas.set.Goals as goal
 
 pub slot_of-slot-requires : goal.slot_of-slot-requires

@@ -1,11 +1,11 @@
 use Rattle.std.proofs.Common.{◌≡◌, ◌≤◌, ◌==◌, ◌∙◌, ℕ, ap, sym, length, take, arith, subst, ◌++◌, List, true}
 use Rattle.std.proofs.lemmas.List.{take_at, length-take-le}
 use borrow.Rule.Slice.PartMut.{post_of}
-use Rattle.param_areas.specs.Space.{Space, change_first}
+use Rattle.param_areas.specs.AreaBytes.{Space, change_first}
 use Rattle.param_areas.specs.Slots.{LaidOut}
 use Rattle.param_areas.specs.declared.slot.Slot.{Slot}
 use Rattle.param_areas.proofs.InBuffer.{laid_taken, space_taken}
-use Rattle.param_areas.proofs.Tellings.{take_told}
+use Rattle.param_areas.proofs.Histories.{take_told}
 use Rattle.param_areas.proofs.areas.Areas.take.Goals as goal
 
 marked : (slots after rest : List Slot) (count area : ℕ) → count ≤ length slots → length after ≡ length (take count slots) → after ≡ change_first (λ s. s.area == area) (λ s. record s { taken = true }) (take count slots) → take count (after ++ rest) ≡ change_first (λ s. s.area == area) (λ s. record s { taken = true }) (take count slots)
