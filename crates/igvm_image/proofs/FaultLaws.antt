@@ -14,10 +14,10 @@ use Rattle.igvm_headers.specs.declared.fault.ReadWhat.TheVariants.{HeaderCut, No
 use Rattle.platform_masks.specs.Platforms.{platforms_of}
 use Rattle.platform_masks.specs.declared.platform.Platform as platform
 use Rattle.igvm_image.specs.Pieces.{Piece, size_of}
-use Rattle.igvm_image.specs.Rules.{seen_of}
-use Rattle.igvm_image.specs.Reading.{fault_of, judged, headers_fault, unless_fault, end_fault}
+use Rattle.igvm_image.specs.HeaderRules.{seen_of}
+use Rattle.igvm_image.specs.FileFault.{fault_of, judged, headers_fault, unless_fault, end_fault}
 use Rattle.igvm_image.specs.Headers.{IsAccepted, pieces_of}
-use Rattle.igvm_image.specs.Laws.{place_of}
+use Rattle.igvm_image.specs.HeadersOfFile.{place_of}
 use Rattle.igvm_image.specs.FirstFault.{KeepsFileRules, AllKept, HeaderFails, IsFirstFault, KeepsHeaderRules, cut_of}
 use Rattle.igvm_image.proofs.HeadersLemmas.{fault_of-section}
 

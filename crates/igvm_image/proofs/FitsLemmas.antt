@@ -4,7 +4,7 @@ use Rattle.std.specs.Prelude.{if◌then◌else◌, ◌==◌, unwrap_or, is_none,
 use Rattle.std.specs.List.{AllByRecursion}
 use Rattle.std.specs.Option.{option_map, option_to_list}
 use Rattle.std.proofs.lemmas.Bool.{ltb-false}
-use Rattle.igvm_headers.specs.Records.{header_form}
+use Rattle.igvm_headers.specs.HeaderForm.{header_form}
 use Rattle.igvm_headers.specs.declared.header.Header.{Header}
 use Rattle.igvm_headers.specs.declared.header.Header.TheVariants.{Page, Insert}
 use Rattle.igvm_headers.specs.declared.fault.HeaderFault.{HeaderFault}
@@ -15,10 +15,10 @@ use Rattle.igvm_headers.specs.declared.fault.ReadWhat.{ReadWhat}
 use Rattle.igvm_image.specs.declared.area_table.AreaEntry.{AreaEntry}
 use Rattle.igvm_image.specs.Areas.{areas_of, area_entry, area_size}
 use Rattle.igvm_image.specs.Pieces.{Piece, size_of, cut}
-use Rattle.igvm_image.specs.Rules.{Seen, seen_of}
-use Rattle.igvm_image.specs.Reading.{judged, headers_fault, unless_fault, section_of}
+use Rattle.igvm_image.specs.HeaderRules.{Seen, seen_of}
+use Rattle.igvm_image.specs.FileFault.{judged, headers_fault, unless_fault, section_of}
 use Rattle.igvm_image.specs.Headers.{PlacedHeader, IsAccepted, placed_from, placed_before, placed_header, decoded, decoded_before, headers_of, placed_headers, pieces_of}
-use Rattle.igvm_image.specs.Fits.{PagesFit}
+use Rattle.igvm_image.specs.PagesFit.{PagesFit}
 use Rattle.igvm_image.specs.RulesLaws.{KeepsRules, keeps_rules}
 use Rattle.igvm_image.specs.AcceptedLaws.{accepted_is, judged_ok}
 use Rattle.igvm_image.proofs.HeadersLemmas.{map-placed_from}
@@ -47,7 +47,7 @@ fits total seen more (Page gpa mask offset large unmeasured kind) rules = is_zer
 fits total seen more (Insert gpa mask area) rules =
     let same = area_size-append seen.areas more area rules.unknown in
     let small = ltb-false (2 ^ 64) (gpa + unwrap_or (area_size seen.areas area) 0) rules.wrap in
-    subst (λ (size : Option ℕ). gpa + unwrap_or size 0 ≤ 2 ^ 64) (sym same) small
+    (is_zero (gpa % 4096) rules.align, subst (λ (size : Option ℕ). gpa + unwrap_or size 0 ≤ 2 ^ 64) (sym same) small)
 fits total seen more _ rules = tt
 
 -- one header, where those behind it fit

@@ -5,14 +5,14 @@ use Rattle.std.specs.List.{slice_get}
 use Rattle.std.proofs.lemmas.List.Sums.{sum_by-cons}
 use Rattle.igvm_headers.specs.Fixed.{fixed_fields}
 use Rattle.igvm_headers.specs.Pages.{file_body}
-use Rattle.igvm_headers.specs.Records.{header_form}
+use Rattle.igvm_headers.specs.HeaderForm.{header_form}
 use Rattle.igvm_headers.specs.declared.header.Header.{Header}
 use Rattle.igvm_headers.specs.declared.fault.ReadWhat.{ReadWhat}
 use Rattle.igvm_image.specs.Pieces.{Piece, size_of, cut}
-use Rattle.igvm_image.specs.Rules.{seen_of}
-use Rattle.igvm_image.specs.Reading.{judged, headers_fault, unless_fault, section_of}
+use Rattle.igvm_image.specs.HeaderRules.{seen_of}
+use Rattle.igvm_image.specs.FileFault.{judged, headers_fault, unless_fault, section_of}
 use Rattle.igvm_image.specs.Headers.{IsAccepted, placed_from, placed_before, placed_header, placed_headers, pieces_of}
-use Rattle.igvm_image.specs.Laws.{Spells}
+use Rattle.igvm_image.specs.HeadersOfFile.{Spells}
 use Rattle.igvm_image.specs.AcceptedLaws.{accepted_is, judged_ok}
 
 -- each of these pieces decodes

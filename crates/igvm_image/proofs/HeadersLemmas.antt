@@ -1,7 +1,7 @@
 -- The headers of a section, one after the other.
 use Rattle.std.proofs.Common.{◌≡◌, ℕ, zero, suc, ◌+◌, ◌-◌, ◌*◌, ◌<◌, ◌≤◌, List, [], ◌∷◌, length, map, refl, sym, ◌∙◌, ap, add-one, arith, Option, Some, None, Result, Ok, Err}
 use Rattle.std.proofs.lemmas.List.{length-drop}
-use Rattle.igvm_headers.specs.Records.{header_form}
+use Rattle.igvm_headers.specs.HeaderForm.{header_form}
 use Rattle.igvm_headers.specs.Fixed.{fixed_form, fixed_fields}
 use Rattle.igvm_headers.specs.Pages.{file_body}
 use Rattle.igvm_headers.specs.declared.header.Header.{Header}
@@ -11,7 +11,7 @@ use Rattle.igvm_image.specs.Pieces.{Piece, piece_at, pieces, pieces_within, size
 use Rattle.igvm_image.specs.Headers.{placed_from, placed_before, placed_header, decoded, decoded_before, headers_of, pieces_of}
 use Rattle.igvm_image.specs.AcceptedLaws.{fixed_form-fields}
 use Rattle.igvm_image.proofs.PiecesLemmas.{pieces-end, pieces-step, piece_at-shorter, piece_at-empty, pieces_within-none, pieces_within-some}
-use Rattle.igvm_image.specs.Reading.{fault_of, fields_fault, faults_behind, fault_or, section_fault, section_of}
+use Rattle.igvm_image.specs.FileFault.{fault_of, fields_fault, faults_behind, fault_or, section_fault, section_of}
 use Rattle.igvm_image.proofs.Walking.{piece_at-behind}
 
 -- no more headers than pieces

@@ -1,6 +1,8 @@
 pub mod PiecesLemmas
 pub mod RulesLemmas
 pub mod RoomLemmas
+pub mod OneBitLemmas
+pub mod WordLaws
 pub mod Walking
 pub mod HeadersLemmas
 pub mod FitsLemmas
@@ -9,3 +11,4 @@ pub mod CutLaws
 pub mod TrailingLaws
 pub mod HeaderLaws
 pub mod FaultLaws
+pub mod NumberLaws

@@ -13,10 +13,10 @@ use Rattle.platform_masks.specs.Platforms.{platform_of}
 use Rattle.igvm_headers.specs.declared.platform_kind.PlatformKind.{PlatformKind}
 use Rattle.igvm_headers.specs.declared.header.Header.{Header}
 use Rattle.igvm_headers.specs.declared.header.Header.TheVariants.{Platform, Area}
-use Rattle.igvm_image.specs.Areas.{area_entry}
-use Rattle.igvm_image.specs.Rules.{Seen, seen_after, MayFollow, is_one_bit, one_bit_masks, breaks_mask, breaks_area_limit, breaks_pages, pages_of}
+use Rattle.igvm_image.specs.Areas.{area_entry, placed_pages}
+use Rattle.igvm_image.specs.HeaderRules.{Seen, seen_after, MayFollow, is_one_bit, one_bit_masks, breaks_mask, breaks_area_limit, breaks_pages}
 use Rattle.igvm_image.specs.RulesLaws.{keeps_rules}
-use Rattle.igvm_image.specs.Room.{HasRoom, masks_of}
+use Rattle.igvm_image.specs.TablesHaveRoom.{HasRoom, masks_of}
 
 eqb_eq : (a b : ℕ) → eqb a b ≡ true → a ≡ b
 eqb_eq a b h = eqb_yes (subst T (sym h) tt)
@@ -91,15 +91,15 @@ at_most platforms pages room =
     let same = length-map platforms (λ (p : platform.Platform). p.mask) in
     omega arith
 
-few_pages : (seen : Seen) (h : Header) → breaks_pages seen h ≡ false → seen.pages + pages_of seen.areas h ≤ 4194304
-few_pages seen h kept = ltb-false 4194304 (seen.pages + pages_of seen.areas h) kept
+few_pages : (seen : Seen) (h : Header) → breaks_pages seen h ≡ false → seen.pages + placed_pages seen.areas h ≤ 4194304
+few_pages seen h kept = ltb-false 4194304 (seen.pages + placed_pages seen.areas h) kept
 
 kept_room : (seen : Seen) (h : Header) → HasRoom seen.platforms seen.pages → breaks_mask seen h ≡ false → breaks_pages seen h ≡ false
     → HasRoom (seen_after seen h).platforms (seen_after seen h).pages
 kept_room seen (Platform mask highest_vtl kind version shared_gpa) room kept small =
     room_more seen _ _ room (fresh seen mask highest_vtl kind version shared_gpa kept) (few_pages seen (Platform mask highest_vtl kind version shared_gpa) small)
 kept_room seen h room kept small =
-    subst (λ ps. HasRoom ps (seen.pages + pages_of seen.areas h)) (sym (append-nil seen.platforms))
+    subst (λ ps. HasRoom ps (seen.pages + placed_pages seen.areas h)) (sym (append-nil seen.platforms))
     (record { apart = room.apart; bits = room.bits; pages = few_pages seen h small })
 
 -- before the first header

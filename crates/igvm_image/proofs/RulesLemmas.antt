@@ -5,8 +5,9 @@ use Rattle.std.proofs.lemmas.List.Elements.{filter_map-append}
 use Rattle.platform_masks.specs.PlatformsLaws.{platforms_of-push}
 use Rattle.igvm_headers.specs.declared.header.Header.{Header}
 use Rattle.igvm_image.specs.declared.area_table.AreaEntry.{AreaEntry}
-use Rattle.igvm_image.specs.Areas.{areas_of, area_entry}
-use Rattle.igvm_image.specs.Rules.{seen_of, seen_after, class_of, named_from, pages_of}
+use Rattle.igvm_image.specs.Areas.{areas_of, area_entry, placed_pages}
+use Rattle.igvm_image.specs.HeaderRules.{seen_of, seen_after, named_from}
+use Rattle.igvm_headers.specs.HeaderFacts.{class_of}
 use Rattle.std.specs.Prelude.{max, Option, Some, None}
 use Rattle.std.specs.Option.{option_to_list}
 use Rattle.std.specs.List.{cons_option}
@@ -28,15 +29,15 @@ areas_of-cons h hs = one (area_entry h)
 
 -- the pages of one header more
 named_from-push : (areas : List AreaEntry) (hs : List Header) (h : Header)
-    → named_from areas (hs ++ h ∷ []) ≡ named_from areas hs + pages_of (areas ++ areas_of hs) h
-named_from-push areas [] h = ap (λ known. pages_of known h + 0) (sym (append-nil areas)) ∙ omega arith
+    → named_from areas (hs ++ h ∷ []) ≡ named_from areas hs + placed_pages (areas ++ areas_of hs) h
+named_from-push areas [] h = ap (λ known. placed_pages known h + 0) (sym (append-nil areas)) ∙ omega arith
 named_from-push areas (g ∷ hs) h =
     let known = areas ++ option_to_list (area_entry g) in
     let same : known ++ areas_of hs ≡ areas ++ areas_of (g ∷ hs) =
     append_assoc areas (option_to_list (area_entry g)) (areas_of hs) ∙ ap (λ e. areas ++ e) (sym (areas_of-cons g hs)) in
-    ap (λ n. pages_of areas g + n) (named_from-push known hs h)
-    ∙ sym (add_assoc (pages_of areas g) (named_from known hs) (pages_of (known ++ areas_of hs) h))
-    ∙ ap (λ e. pages_of areas g + named_from known hs + pages_of e h) same
+    ap (λ n. placed_pages areas g + n) (named_from-push known hs h)
+    ∙ sym (add_assoc (placed_pages areas g) (named_from known hs) (placed_pages (known ++ areas_of hs) h))
+    ∙ ap (λ e. placed_pages areas g + named_from known hs + placed_pages e h) same
 
 -- the rules ask the same of headers and one more as of what they asked before, and that one
 pub seen_of-push : (hs : List Header) (h : Header) → seen_of (hs ++ h ∷ []) ≡ seen_after (seen_of hs) h

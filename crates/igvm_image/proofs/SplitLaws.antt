@@ -5,7 +5,7 @@ use Rattle.std.proofs.lemmas.List.{length-drop, length-take-le}
 use Rattle.std.proofs.lemmas.Bool.{le-leb, leb-true, leb-false, lt-leb}
 use Rattle.igvm_headers.specs.Numbers.{number_at, slice}
 use Rattle.igvm_image.specs.Pieces.{Piece, piece_at, pieces, cut, begins, first_piece, padded_size}
-use Rattle.igvm_image.specs.Split.{Split, IsCut, Begins, behind}
+use Rattle.igvm_image.specs.SectionSplit.{Split, IsCut, Begins, behind}
 use Rattle.igvm_image.proofs.PiecesLemmas.{pieces-end, cut-end, pieces-step, cut-step, piece_at-shorter}
 use Rattle.igvm_image.proofs.Walking.{piece_at-behind}
 

@@ -8,8 +8,8 @@ use Rattle.igvm_headers.specs.declared.fault.ReadWhat.TheVariants.{HeaderCut, No
 use Rattle.igvm_headers.specs.Fixed.{fault_at}
 use Rattle.igvm_headers.specs.Numbers.{number_at}
 use Rattle.igvm_image.specs.Pieces.{Piece, piece_at, pieces, cut, size_of, padded_size}
-use Rattle.igvm_image.specs.Rules.{Seen, seen_of, seen_after, MayFollow}
-use Rattle.igvm_image.specs.Reading.{judged, headers_fault, section_fault, end_fault, unless_fault}
+use Rattle.igvm_image.specs.HeaderRules.{Seen, seen_of, seen_after, MayFollow}
+use Rattle.igvm_image.specs.FileFault.{judged, headers_fault, section_fault, end_fault, unless_fault}
 use Rattle.igvm_image.specs.Headers.{decoded, decoded_before}
 use Rattle.igvm_image.specs.AcceptedLaws.{judged_ok}
 use Rattle.igvm_image.proofs.PiecesLemmas.{pieces-end, cut-end, pieces-step, cut-step, piece_at-shorter}

@@ -1,11 +1,10 @@
 -- The headers of an accepted file break no rule.
-use Rattle.std.proofs.Common.{◌≡◌, ℕ, zero, suc, ◌+◌, ◌<◌, List, [], ◌∷◌, ◌++◌, length, map, take, refl, sym, ◌∙◌, ap, subst, append_assoc, append-nil, arith, Option, Some, None, Result, Ok, Err, Bool, true, false}
-use Rattle.std.specs.Prelude.{if◌then◌else◌, ◌==◌, nat_lt, not}
+use Rattle.std.proofs.Common.{◌≡◌, ℕ, zero, suc, ◌+◌, ◌<◌, List, [], ◌∷◌, ◌++◌, length, map, take, refl, sym, ◌∙◌, ap, subst, append_assoc, append-nil, arith, Option, Some, None, Result, Ok, Err}
+use Rattle.std.specs.Prelude.{if◌then◌else◌, ◌==◌}
 use Rattle.std.specs.List.{slice_get}
-use Rattle.igvm_headers.specs.Fixed.{fixed_form, fixed_fields, fault_at}
-use Rattle.igvm_headers.specs.Numbers.{number_at}
+use Rattle.igvm_headers.specs.Fixed.{fixed_form, fixed_fields, fault_at, fixed_fault, fixed_unless}
 use Rattle.igvm_headers.specs.Pages.{file_body}
-use Rattle.igvm_headers.specs.Records.{header_form}
+use Rattle.igvm_headers.specs.HeaderForm.{header_form}
 use Rattle.igvm_headers.specs.declared.fixed.FixedHeader.{FixedHeader}
 use Rattle.igvm_headers.specs.declared.header.Header.{Header}
 use Rattle.igvm_headers.specs.declared.fault.HeaderFault.{HeaderFault}
@@ -14,10 +13,10 @@ use Rattle.igvm_headers.specs.declared.fault.ReadWhat.{ReadWhat}
 use Rattle.igvm_headers.specs.declared.fault.ReadWhat.TheVariants.{NoPlatform}
 use Rattle.platform_masks.specs.Platforms.{platforms_of}
 use Rattle.igvm_image.specs.Pieces.{Piece, size_of, cut}
-use Rattle.igvm_image.specs.Rules.{Seen, seen_of, rule_fault}
-use Rattle.igvm_image.specs.Reading.{judged, judged_form, if_rules_hold, headers_fault, unless_fault, end_fault, section_fault, section_of, fault_of, fault_or, faults_behind, fields_fault}
+use Rattle.igvm_image.specs.HeaderRules.{Seen, seen_of, rule_fault}
+use Rattle.igvm_image.specs.FileFault.{judged, judged_form, if_rules_hold, headers_fault, unless_fault, end_fault, section_fault, section_of, fault_of, fault_or, faults_behind, fields_fault}
 use Rattle.igvm_image.specs.Headers.{PlacedHeader, IsAccepted, placed_from, placed_before, placed_header, placed_headers, headers_of, pieces_of}
-use Rattle.igvm_image.specs.Laws.{IsAcceptedHeader, IsHeaderOf}
+use Rattle.igvm_image.specs.HeadersOfFile.{IsAcceptedHeader, IsHeaderOf}
 
 -- ---- a piece that is judged to be a header
 
@@ -53,19 +52,14 @@ pub record Accepted (file : List ℕ) : Type 0 where
   pub headers : section_fault (fixed_fields file).total (fixed_fields file).var_offset
       (section_of file (fixed_fields file)) ≡ None
 
-last_chosen : (a b c : Bool) (x y z : ReadFault) (fixed other : FixedHeader)
-    → (if a then Err x else if b then Err y else if c then Err z else Ok fixed) ≡ Ok other → other ≡ fixed
-last_chosen true b c x y z fixed other h = cc
-last_chosen false true c x y z fixed other h = cc
-last_chosen false false true x y z fixed other h = cc
-last_chosen false false false x y z fixed other h = cc
+unless_fields : (fault : Option ReadFault) (file : List ℕ) (fixed : FixedHeader) → fixed_unless fault file ≡ Ok fixed → fixed ≡ fixed_fields file
+unless_fields None file fixed h = cc
+unless_fields (Some fault) file fixed h = cc
 
 -- the fields where the fixed header is read
 pub fixed_form-fields : (file : List ℕ) (fixed : FixedHeader) → fixed_form file ≡ Ok fixed → fixed ≡ fixed_fields file
 unfolding fixed_form
-fixed_form-fields file fixed h =
-    last_chosen (nat_lt (length file) 24) (not (number_at 4 0 file == 0x4D564749)) (not (number_at 4 4 file == 1))
-    _ _ _ _ fixed h
+fixed_form-fields file fixed h = unless_fields (fixed_fault file) file fixed h
 
 neither_fault : (first later : Option ReadFault) → fault_or first later ≡ None → (first ≡ None) × (later ≡ None)
 neither_fault None later h = (refl, h)

@@ -1,8 +1,8 @@
 -- What a header's data are: pages at a file offset.
-use Rattle.std.specs.Prelude.{ℕ, ◌/◌, List, Bool, ◌==◌, ◌||◌, if◌then◌else◌}
+use Rattle.std.specs.Prelude.{ℕ, List, Bool, ◌==◌, ◌||◌}
+use Rattle.igvm_headers.specs.HeaderFacts.{data_offset, data_pages}
 use Rattle.igvm_headers.specs.Pages.{body_page, file_body}
 use Rattle.igvm_headers.specs.declared.header.Header.{Header}
-use Rattle.igvm_headers.specs.declared.header.Header.TheVariants.{Area, Page, Context}
 
 -- pages of 4,096 bytes at an offset of the file's body
 pub record Data : Type 0 where
@@ -10,20 +10,7 @@ pub record Data : Type 0 where
   pub offset : ℕ
   pub pages : ℕ
 
--- how many pages a header's data have
-abbrev pub data_pages : Header → ℕ
-data_pages (Area bytes area offset) = bytes / 4096
-data_pages (Page gpa mask offset large unmeasured kind) = if large then 512 else 1
-data_pages (Context gpa mask offset vp) = 1
-data_pages _ = 0
-
--- where they stand in the file, or 0
-abbrev pub data_offset : Header → ℕ
-data_offset (Area bytes area offset) = offset
-data_offset (Page gpa mask offset large unmeasured kind) = offset
-data_offset (Context gpa mask offset vp) = offset
-data_offset _ = 0
-
+-- the data of a header in a file's body
 abbrev pub data_in : List ℕ → Header → Data
 data_in body header = record { body = body; offset = data_offset header; pages = data_pages header }
 

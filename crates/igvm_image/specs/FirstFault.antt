@@ -7,10 +7,10 @@ use Rattle.igvm_headers.specs.declared.header.Header.{Header}
 use Rattle.igvm_headers.specs.declared.fault.ReadFault.{ReadFault}
 use Rattle.igvm_headers.specs.declared.fault.ReadWhat.TheVariants.{HeaderCut, NoPlatform}
 use Rattle.igvm_image.specs.Pieces.{Piece, cut}
-use Rattle.igvm_image.specs.Rules.{seen_of}
-use Rattle.igvm_image.specs.Reading.{judged, fields_fault, section_of}
+use Rattle.igvm_image.specs.HeaderRules.{seen_of}
+use Rattle.igvm_image.specs.FileFault.{judged, fields_fault, section_of}
 use Rattle.igvm_image.specs.Headers.{pieces_of}
-use Rattle.igvm_image.specs.Laws.{place_of}
+use Rattle.igvm_image.specs.HeadersOfFile.{place_of}
 use Rattle.platform_masks.specs.Platforms.{platforms_of}
 
 -- the rules on the whole file hold: the fixed header is read, and its fields break no rule

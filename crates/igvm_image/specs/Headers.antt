@@ -1,13 +1,13 @@
 -- The headers of a file, in file order.
 use Rattle.std.specs.Prelude.{◌≡◌, ℕ, suc, ◌+◌, List, [], ◌∷◌, map, None, Result, Ok, Err}
 use Rattle.igvm_headers.specs.Pages.{file_body}
-use Rattle.igvm_headers.specs.Records.{header_form}
+use Rattle.igvm_headers.specs.HeaderForm.{header_form}
 use Rattle.igvm_headers.specs.Fixed.{fixed_fields}
 use Rattle.igvm_headers.specs.declared.header.Header.{Header}
 use Rattle.igvm_headers.specs.declared.fault.HeaderFault.{HeaderFault}
 use Rattle.igvm_image.specs.Data.{Data, data_in}
 use Rattle.igvm_image.specs.Pieces.{Piece, size_of, pieces}
-use Rattle.igvm_image.specs.Reading.{fault_of, section_of}
+use Rattle.igvm_image.specs.FileFault.{fault_of, section_of}
 
 -- a file that breaks no rule
 abbrev pub IsAccepted : List ℕ → Type 0

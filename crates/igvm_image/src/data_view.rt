@@ -28,16 +28,10 @@ impl<'a> DataView<'a> {
     pub(crate) fn of(body: &'a [u8], header: &Header) -> DataView<'a>
         ensures { result ≡ data_in body.now header.now }
     {
-        let (offset, count) = match header {
-            Header::Area { bytes, offset, .. } => (*offset, bytes / 4096),
-            Header::Page { offset, large, .. } => (*offset, if *large { 512 } else { 1 }),
-            Header::Context { offset, .. } => (*offset, 1),
-            _ => (0, 0),
-        };
         DataView {
             body,
-            offset,
-            count,
+            offset: header.data_offset(),
+            count: header.data_pages(),
         }
     }
 

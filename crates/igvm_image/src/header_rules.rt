@@ -1,40 +1,21 @@
 //! The rules on a header among those before it, one test each, in the order of docs/FORMAT.md.
 ghost use Rattle.std.specs.Prelude.{◌≡◌, ◌≤◌};
-ghost use Rattle.igvm_image.specs.Rules.{breaks_order, breaks_mask, breaks_align, breaks_area_limit, breaks_area_repeated, breaks_area_unknown, breaks_area_size, breaks_wrap, breaks_data, breaks_pages, pages_of, class_of, passes};
+ghost use Rattle.igvm_image.specs.Areas.{area_bytes_of, placed_pages};
+ghost use Rattle.igvm_image.specs.HeaderRules.{breaks_order, breaks_mask, breaks_align, breaks_area_limit, breaks_area_repeated, breaks_area_unknown, breaks_area_size, breaks_wrap, breaks_data, breaks_pages, passes};
 
 use crate::one_bit::is_one_bit;
 use crate::seen_headers::SeenHeaders;
-use igvm_headers::Header;
+use igvm_headers::{Header, page_bytes};
 
-/// The class of a header's type in the order of headers: 1 for platforms, 2 for initialization, 3 for
-/// directives (`igvm_defs`, IGVM_VHT_RANGE_*), and 0 for none.
-pub(crate) fn class_of(header: &Header) -> u32
-    ensures value { result ≡ class_of header.now }
-    ensures within { result ≤ 3 }
-{
-    match header {
-        Header::Platform { .. } => 1,
-        Header::Policy { .. } => 2,
-        Header::Carried { kind, .. } => {
-            if *kind >= 0x8000_0000 {
-                0
-            } else if *kind == 0x311 {
-                3
-            } else {
-                2
-            }
-        }
-        _ => 3,
-    }
-}
-
+/// An earlier header has a later class.
 pub(crate) fn breaks_order(seen: &SeenHeaders, header: &Header) -> bool
     ensures { result ≡ breaks_order seen.now header.now }
 {
-    let class = class_of(header);
+    let class = header.class();
     class != 0 && class < seen.latest()
 }
 
+/// A platform's mask is not one bit, or is that of an earlier platform.
 pub(crate) fn breaks_mask(seen: &SeenHeaders, header: &Header) -> bool
     ensures { result ≡ breaks_mask seen.now header.now }
 {
@@ -44,17 +25,19 @@ pub(crate) fn breaks_mask(seen: &SeenHeaders, header: &Header) -> bool
     }
 }
 
+/// A guest physical address is no multiple of the page's size.
 pub(crate) fn breaks_align(header: &Header) -> bool
     ensures { result ≡ breaks_align header.now }
 {
     match header {
-        Header::Page { gpa, large, .. } => gpa % if *large { 2_097_152 } else { 4096 } != 0,
+        Header::Page { gpa, large, .. } => gpa % page_bytes(*large) != 0,
         Header::Insert { gpa, .. } => gpa % 4096 != 0,
         Header::Context { gpa, .. } => gpa % 4096 != 0,
         _ => false,
     }
 }
 
+/// 256 areas are declared before.
 pub(crate) fn breaks_area_limit(seen: &SeenHeaders, header: &Header) -> bool
     ensures { result ≡ breaks_area_limit seen.now header.now }
 {
@@ -64,6 +47,7 @@ pub(crate) fn breaks_area_limit(seen: &SeenHeaders, header: &Header) -> bool
     }
 }
 
+/// An area's index is declared before.
 pub(crate) fn breaks_area_repeated(seen: &SeenHeaders, header: &Header) -> bool
     ensures { result ≡ breaks_area_repeated seen.now header.now }
 {
@@ -73,6 +57,7 @@ pub(crate) fn breaks_area_repeated(seen: &SeenHeaders, header: &Header) -> bool
     }
 }
 
+/// An area that is named is not declared before.
 pub(crate) fn breaks_area_unknown(seen: &SeenHeaders, header: &Header) -> bool
     ensures { result ≡ breaks_area_unknown seen.now header.now }
 {
@@ -83,6 +68,7 @@ pub(crate) fn breaks_area_unknown(seen: &SeenHeaders, header: &Header) -> bool
     }
 }
 
+/// An area's size is 0, no multiple of 4,096, or above 67,108,864.
 pub(crate) fn breaks_area_size(header: &Header) -> bool
     ensures { result ≡ breaks_area_size header.now }
 {
@@ -92,6 +78,7 @@ pub(crate) fn breaks_area_size(header: &Header) -> bool
     }
 }
 
+/// An inserted area passes the end of the address space.
 pub(crate) fn breaks_wrap(seen: &SeenHeaders, header: &Header) -> bool
     ensures { result ≡ breaks_wrap seen.now header.now }
 {
@@ -104,13 +91,12 @@ pub(crate) fn breaks_wrap(seen: &SeenHeaders, header: &Header) -> bool
     }
 }
 
+/// Data at an offset other than 0 pass the total size; a context's offset alone counts.
 pub(crate) fn breaks_data(total: u32, header: &Header) -> bool
     ensures { result ≡ breaks_data total header.now }
 {
     match header {
-        Header::Page { offset, large, .. } => {
-            passes(total, *offset, if *large { 2_097_152 } else { 4096 })
-        }
+        Header::Page { offset, large, .. } => passes(total, *offset, page_bytes(*large)),
         Header::Area { bytes, offset, .. } => passes(total, *offset, *bytes),
         Header::Context { offset, .. } => total < *offset,
         _ => false,
@@ -124,20 +110,27 @@ fn passes(total: u32, offset: u32, size: u64) -> bool
     offset != 0 && (offset > total || u64::from(total - offset) < size)
 }
 
+/// The pages placed so far, with this header's, are more than 4,194,304.
 pub(crate) fn breaks_pages(seen: &SeenHeaders, header: &Header) -> bool
     ensures { result ≡ breaks_pages seen.now header.now }
 {
-    seen.pages() + pages_of(seen, header) > 4_194_304
+    seen.pages() + placed_pages(seen, header) > 4_194_304
 }
 
-/// How many pages of 4,096 bytes a header names: at most 2^52.
-pub(crate) fn pages_of(seen: &SeenHeaders, header: &Header) -> u64
-    ensures value { result ≡ pages_of seen.now.areas header.now }
+/// How many pages of 4,096 bytes a header places: an insert as many as its area has.
+pub(crate) fn placed_pages(seen: &SeenHeaders, header: &Header) -> u64
+    ensures value { result ≡ placed_pages seen.now.areas header.now }
     ensures within { result ≤ 4503599627370496 }
 {
-    match header {
-        Header::Page { large, .. } => if *large { 512 } else { 1 },
-        Header::Insert { area, .. } => seen.area_bytes(*area).unwrap_or(0) / 4096,
-        _ => 0,
+    header.page_count(area_bytes_of(seen, header))
+}
+
+/// The size in bytes of the area that a header puts into the guest, and 0 for other headers.
+fn area_bytes_of(seen: &SeenHeaders, header: &Header) -> u64
+    ensures { result ≡ area_bytes_of seen.now.areas header.now }
+{
+    match header.inserted_area() {
+        Some(area) => seen.area_bytes(area).unwrap_or(0),
+        None => 0,
     }
 }

@@ -1,14 +1,19 @@
 //! What holds of every file, beyond what one call answers: each law is a function that does nothing.
-ghost use Rattle.std.specs.Prelude.{◌≡◌, ◌↔◌, ℕ, ◌<◌, List, ◌++◌, length, take, Some};
-ghost use Rattle.std.specs.List.{slice_get};
-ghost use Rattle.igvm_headers.specs.Fixed.{fixed_fields};
+ghost use Rattle.std.specs.Prelude.{◌≡◌, ◌↔◌, ℕ, ◌<◌, List, ◌++◌, length, take, Some, true};
+ghost use Rattle.std.specs.List.{slice_get, AllByRecursion};
+ghost use Rattle.igvm_headers.specs.SpellingConditions.{NumbersFit};
+ghost use Rattle.igvm_image.specs.Areas.{areas_of};
+ghost use Rattle.igvm_image.specs.PagesFit.{PagesFit, AreBytes};
+ghost use Rattle.igvm_headers.specs.Fixed.{fixed_fields, fixed_size};
 ghost use Rattle.igvm_headers.specs.declared.header.Header.{Header};
 ghost use Rattle.platform_masks.specs.Platforms.{platforms_of};
+ghost use Rattle.igvm_image.specs.HeaderRules.{seen_of, breaks_order, breaks_mask, breaks_area_limit, breaks_area_repeated, breaks_area_unknown, breaks_wrap, breaks_pages};
+ghost use Rattle.igvm_image.specs.RulesInWords.{FollowsLater, LacksOwnBit, DeclaresTooMany, DeclaresAgain, NamesUndeclared, InsertsPastEnd, PlacesTooMany};
 ghost use Rattle.igvm_image.specs.Pieces.{Piece, pieces, cut};
-ghost use Rattle.igvm_image.specs.Split.{Split};
-ghost use Rattle.igvm_image.specs.Reading.{fault_of};
+ghost use Rattle.igvm_image.specs.SectionSplit.{Split};
+ghost use Rattle.igvm_image.specs.FileFault.{fault_of};
 ghost use Rattle.igvm_image.specs.Headers.{PlacedHeader, IsAccepted, pieces_of, placed_headers, headers_of};
-ghost use Rattle.igvm_image.specs.Laws.{Spells, IsHeaderOf, cut_fault};
+ghost use Rattle.igvm_image.specs.HeadersOfFile.{Spells, IsHeaderOf, cut_fault};
 ghost use Rattle.igvm_image.specs.FirstFault.{KeepsFileRules, KeepsHeaderRules, IsFirstFault};
 ghost use Rattle.igvm_headers.specs.declared.fault.ReadFault.{ReadFault};
 
@@ -36,6 +41,25 @@ pub fn accepted_headers()
         → 0 < length (platforms_of (headers_of file)) }
 {}
 
+/// When a header breaks each of the rules that ask of the headers before it: what holds of that list, in words that
+/// the reader's summary of it does not share. The other three rules ask of the header alone.
+pub fn rules_in_words()
+    ensures order { (before : List Header) (header : Header)
+        → ((breaks_order (seen_of before) header ≡ true) ↔ FollowsLater before header) }
+    ensures mask { (before : List Header) (header : Header)
+        → ((breaks_mask (seen_of before) header ≡ true) ↔ LacksOwnBit before header) }
+    ensures area_limit { (before : List Header) (header : Header)
+        → ((breaks_area_limit (seen_of before) header ≡ true) ↔ DeclaresTooMany before header) }
+    ensures area_repeated { (before : List Header) (header : Header)
+        → ((breaks_area_repeated (seen_of before) header ≡ true) ↔ DeclaresAgain before header) }
+    ensures area_unknown { (before : List Header) (header : Header)
+        → ((breaks_area_unknown (seen_of before) header ≡ true) ↔ NamesUndeclared before header) }
+    ensures wrap { (before : List Header) (header : Header)
+        → ((breaks_wrap (seen_of before) header ≡ true) ↔ InsertsPastEnd before header) }
+    ensures pages { (before : List Header) (header : Header)
+        → ((breaks_pages (seen_of before) header ≡ true) ↔ PlacesTooMany before header) }
+{}
+
 /// The fault of a file that keeps the rules on the whole file: that of the first header that breaks a rule,
 /// else what is left behind the headers, else the lack of a platform. There is none exactly where all is kept.
 pub fn first_fault()
@@ -48,7 +72,7 @@ pub fn first_fault()
 /// An accepted file that is cut below its total size is refused, as too short where the fixed header is cut.
 pub fn truncation()
     ensures { (file : List ℕ) (n : ℕ) → IsAccepted file → n < (fixed_fields file).total
-        → fault_of (take n file) ≡ Some (cut_fault n) }
+        → fault_of (take n file) ≡ Some (cut_fault (fixed_size (fixed_fields file).version) n) }
 {}
 
 /// Bytes behind an accepted file change neither that nor its headers and their data.
@@ -57,3 +81,14 @@ pub fn trailing_bytes()
     ensures headers { (file more : List ℕ) → IsAccepted file
         → placed_headers (file ++ more) ≡ placed_headers file }
 {}
+
+/// The headers of an accepted file place their pages within the address space, and the numbers of a file of
+/// bytes fit their fields.
+pub fn pages_fit()
+    ensures fit { (file : List ℕ) → IsAccepted file
+        → AllByRecursion (λ p. PagesFit (areas_of (headers_of file)) p.header) (placed_headers file) }
+    ensures numbers { (file : List ℕ) → AreBytes file
+        → AllByRecursion (λ p. NumbersFit p.header) (placed_headers file) }
+{
+    igvm_headers::read_is_spellable();
+}

@@ -1,17 +1,18 @@
 //! What the rules on a header ask of the headers before it (`igvm_defs`, IGVM_VHS_VARIABLE_HEADER).
-ghost use Rattle.std.specs.Prelude.{◌≡◌, ◌≤◌, [], ◌∷◌, ◌++◌, List, length};
+ghost use Rattle.std.specs.Prelude.{◌≡◌, ◌≤◌, ◌<◌, ◌+◌, [], ◌∷◌, ◌++◌, List, length, IfSome};
+ghost use Rattle.std.specs.Option.{option_to_list};
 ghost use Rattle.igvm_headers.specs.declared.header.Header.{Header};
-ghost use Rattle.igvm_image.specs.Areas.{area_size};
-ghost use Rattle.igvm_image.specs.Rules.{MayFollow, rule_fault, seen_of, seen_after};
+ghost use Rattle.igvm_image.specs.Areas.{area_entry, area_size, placed_pages};
+ghost use Rattle.platform_masks.specs.Platforms.{platform_of};
+ghost use Rattle.igvm_image.specs.HeaderRules.{MayFollow, rule_fault, seen_of, seen_after};
 
-use crate::area_table::AreaTable;
-use crate::declaring::{declare_area, declare_platform};
+use crate::area_table::{AreaEntry, AreaTable};
 use crate::header_rules::{
     breaks_align, breaks_area_limit, breaks_area_repeated, breaks_area_size, breaks_area_unknown,
-    breaks_data, breaks_mask, breaks_order, breaks_pages, breaks_wrap, class_of, pages_of,
+    breaks_data, breaks_mask, breaks_order, breaks_pages, breaks_wrap, placed_pages,
 };
 use igvm_headers::{Header, ReadWhat};
-use platform_masks::Platforms;
+use platform_masks::{Platform, Platforms};
 use std::marker::Model;
 
 /// A summary of headers in a row that break no rule: the latest class, the platforms, the areas, and
@@ -26,8 +27,8 @@ pub struct SeenHeaders {
 }
 
 impl Model for SeenHeaders {
-    ghost use Rattle.igvm_image.specs.Rules.{Seen};
-    ghost use Rattle.igvm_image.specs.Room.{HasRoom};
+    ghost use Rattle.igvm_image.specs.HeaderRules.{Seen};
+    ghost use Rattle.igvm_image.specs.TablesHaveRoom.{HasRoom};
 
     ghost Value = { Seen };
 
@@ -57,7 +58,7 @@ impl SeenHeaders {
 
     /// The first rule that a header breaks behind these, in a file of this total size in bytes. With a
     /// total size of 0 only data at file offset 0 lie inside.
-    #[tactic(auto, unfolding(crate::specs::Rules::rule_fault))]
+    #[tactic(auto, unfolding(crate::specs::HeaderRules::rule_fault))]
     pub fn rule_fault(&self, total: u32, header: &Header) -> Option<ReadWhat>
         ensures { result ≡ rule_fault total self.now header.now }
     {
@@ -93,8 +94,8 @@ impl SeenHeaders {
         ensures seen { (before : List Header) → self.old ≡ seen_of before
             → self.new ≡ seen_of (before ++ header.now ∷ []) }
     {
-        let pages = pages_of(self, header);
-        self.latest = self.latest.max(class_of(header));
+        let pages = placed_pages(self, header);
+        self.latest = self.latest.max(header.class());
         declare_platform(&mut self.platforms, header);
         declare_area(&mut self.areas, header);
         self.pages += pages;
@@ -112,6 +113,14 @@ impl SeenHeaders {
         ensures { result ≡ area_size self.now.areas area }
     {
         self.areas.bytes_of(area)
+    }
+
+    /// How many pages of 4,096 bytes a header places: an insert as many as its area has.
+    pub fn placed_pages(&self, header: &Header) -> u64
+        ensures value { result ≡ placed_pages self.now.areas header.now }
+        ensures within { result ≤ 4503599627370496 }
+    {
+        placed_pages(self, header)
     }
 
     /// How many areas are declared.
@@ -134,5 +143,43 @@ impl SeenHeaders {
         ensures within { result ≤ 4194304 }
     {
         self.pages
+    }
+}
+
+/// Takes in the platform that a header declares, under the next number. Other headers declare none.
+fn declare_platform(platforms: &mut Platforms, header: &Header)
+    requires { length platforms.old + length (platform_of (length platforms.old) header.now) ≤ 32 }
+    ensures { platforms.new ≡ platforms.old ++ platform_of (length platforms.old) header.now }
+{
+    if let Header::Platform {
+        mask,
+        highest_vtl,
+        kind,
+        version,
+        shared_gpa,
+    } = header
+    {
+        let number = platforms.count();
+        platforms.push(Platform {
+            number,
+            mask: *mask,
+            kind: *kind,
+            highest_vtl: *highest_vtl,
+            version: *version,
+            shared_gpa: *shared_gpa,
+        });
+    }
+}
+
+/// Takes in the area that a header declares. Other headers declare none.
+fn declare_area(areas: &mut AreaTable, header: &Header)
+    requires { IfSome (area_entry header.now) (λ _. length areas.old < 256) }
+    ensures { areas.new ≡ areas.old ++ option_to_list (area_entry header.now) }
+{
+    if let Header::Area { bytes, area, .. } = header {
+        areas.push(AreaEntry {
+            area: *area,
+            bytes: *bytes,
+        });
     }
 }

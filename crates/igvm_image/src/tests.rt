@@ -1,4 +1,6 @@
 //! Images as tables: the first rule that each breaks, or what a view of it answers.
+ghost use Rattle.std.specs.Prelude.{◌+◌, ◌≤◌};
+
 use super::*;
 use igvm_headers::{
     FixedHeader, Header, PlatformKind, ReadFault, ReadWhat, crc_begin, crc_end, crc_more,
@@ -10,6 +12,14 @@ use std::test::Fail;
 /// The fixed header with zlib's checksum, and one platform.
 const SMALLEST: &[u8] = b"IGVM\x01\0\0\0\x18\0\0\0\x18\0\0\0\x30\0\0\0\xE5\xD3\xAB\x67\
     \x01\0\0\0\x10\0\0\0\x01\0\0\0\0\x02\x01\0\0\0\0\0\0\0\0\0";
+
+/// The same in version 2, whose fixed header has 32 bytes, with zlib's checksum.
+const SMALLEST_OF_VERSION_2: [u8; 56] =
+    *b"IGVM\x02\0\0\0\x20\0\0\0\x18\0\0\0\x38\0\0\0\x3F\x26\x3A\xFA\0\0\0\0\0\x10\0\0\
+    \x01\0\0\0\x10\0\0\0\x01\0\0\0\0\x02\x01\0\0\0\0\0\0\0\0\0";
+
+/// zlib's checksum over its first 24 bytes, with zeros for the checksum, and the section: 8 bytes too few.
+const CHECKSUM_OF_24: [u8; 4] = *b"\xAB\x2C\xEC\x46";
 
 /// No header.
 const NONE: &[u8] = b"";
@@ -120,6 +130,40 @@ fn image(alloc: Global, section: &[u8], data: u32) -> Result<Vec<u8>, AllocError
 fn fault_of(rt: &impl Abort, file: &[u8]) -> Option<ReadFault> {
     assert!(rt; file.len() <= 536_870_912);
     open_image(file).err()
+}
+
+/// The smallest image of version 2 with other bytes from a place on.
+fn changed<const N: usize>(at: usize, bytes: [u8; N]) -> [u8; 56]
+    requires { at + N ≤ 56 }
+{
+    let mut file = SMALLEST_OF_VERSION_2;
+    file[at..at + N].copy_from_slice(&bytes);
+    file
+}
+
+#[test]
+fn names_the_rule_of_the_fixed_header_of_version_2(rt: HostRuntime) {
+    assert_eq!(rt; fault_of(&rt, &SMALLEST_OF_VERSION_2), None);
+    for (file, at, what) in [
+        (&SMALLEST_OF_VERSION_2[..23], 23, ReadWhat::TooShort),
+        (&SMALLEST_OF_VERSION_2[..24], 24, ReadWhat::TooShort),
+        (&SMALLEST_OF_VERSION_2[..31], 31, ReadWhat::TooShort),
+        (&SMALLEST_OF_VERSION_2[..32], 16, ReadWhat::TotalSize),
+        (&SMALLEST_OF_VERSION_2[..55], 16, ReadWhat::TotalSize),
+        (&changed(4, [0])[..], 4, ReadWhat::Version),
+        (&changed(4, [3])[..], 4, ReadWhat::Version),
+        (&changed(24, [1])[..], 24, ReadWhat::Aarch64),
+        (&changed(24, [2])[..], 24, ReadWhat::Architecture),
+        (&changed(28, [0, 0, 1])[..], 28, ReadWhat::PageSize),
+        (&changed(16, [31])[..], 16, ReadWhat::TotalSize),
+        (&changed(16, [24])[..], 16, ReadWhat::TotalSize),
+        (&changed(8, [24])[..], 8, ReadWhat::Section),
+        (&changed(8, [31])[..], 8, ReadWhat::Section),
+        (&changed(8, [33])[..], 8, ReadWhat::Section),
+        (&changed(20, CHECKSUM_OF_24)[..], 20, ReadWhat::Checksum),
+    ] {
+        assert_eq!(rt; fault_of(&rt, file), Some(ReadFault { at, what }));
+    }
 }
 
 #[test]

@@ -2,16 +2,16 @@
 ghost use Rattle.std.specs.Prelude.{◌≡◌, ◌≤◌, ◌<◌, ◌^◌, length, IfOk, IfErr, OnOk, Some};
 ghost use Rattle.igvm_headers.specs.Fixed.{fixed_fields};
 ghost use Rattle.platform_masks.specs.Platforms.{platforms_of};
-ghost use Rattle.igvm_image.specs.Areas.{areas_of, area_size};
-ghost use Rattle.igvm_image.specs.Reading.{fault_of};
+ghost use Rattle.igvm_image.specs.Areas.{areas_of, area_size, placed_pages};
+ghost use Rattle.igvm_image.specs.FileFault.{fault_of};
 ghost use Rattle.std.specs.List.{AllByRecursion};
-ghost use Rattle.igvm_image.specs.Fits.{PagesFit};
+ghost use Rattle.igvm_image.specs.PagesFit.{PagesFit, AreBytes};
 ghost use Rattle.igvm_image.specs.Headers.{IsAccepted, placed_headers, headers_of};
 
+use crate::file_rules::{body_of, check_file, read_section, section_of};
 use crate::headers::Headers;
-use crate::reading::{body_of, check_file, read_section, section_of};
 use crate::seen_headers::SeenHeaders;
-use igvm_headers::{FixedHeader, ReadFault};
+use igvm_headers::{FixedHeader, Header, ReadFault};
 use platform_masks::Platforms;
 use std::marker::Model;
 
@@ -29,7 +29,7 @@ impl<'a> Model for ImageView<'a> {
 
     ghost Value = { List ℕ };
 
-    ghost use Rattle.igvm_image.specs.View.{IsView};
+    ghost use Rattle.igvm_image.specs.ViewInvariant.{IsView};
 
     ghost view = { λ s. s.file.now };
 
@@ -63,7 +63,9 @@ impl<'a> ImageView<'a> {
     pub fn fixed(&self) -> FixedHeader
         ensures value { result ≡ fixed_fields self.now }
         ensures accepted { IsAccepted self.now }
+        ensures bytes { AreBytes self.now }
     {
+        note_bytes(self.file);
         self.fixed
     }
 
@@ -88,6 +90,14 @@ impl<'a> ImageView<'a> {
         self.seen.area_bytes(area)
     }
 
+    /// How many pages of 4,096 bytes a header places: an insert as many as its area has.
+    pub fn placed_pages(&self, header: &Header) -> u64
+        ensures value { result ≡ placed_pages (areas_of (headers_of self.now)) header.now }
+        ensures within { result ≤ 4503599627370496 }
+    {
+        self.seen.placed_pages(header)
+    }
+
     /// The headers in file order.
     pub fn headers(&self) -> Headers<'a>
         ensures placed { result ≡ placed_headers self.now }
@@ -100,3 +110,8 @@ impl<'a> ImageView<'a> {
         Headers::new(body, section, self.fixed.var_offset)
     }
 }
+
+/// What is lent of a file are bytes: a clause ranges over all numbers.
+fn note_bytes(bytes: &[u8])
+    ensures { AreBytes bytes.now }
+{}

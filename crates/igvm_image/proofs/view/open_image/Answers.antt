@@ -1,6 +1,6 @@
 use Rattle.std.proofs.Common.{◌∙◌, sym, ap, length}
-use Rattle.igvm_image.specs.Rules.{seen_of}
-use Rattle.igvm_image.specs.Reading.{section_fault}
+use Rattle.igvm_image.specs.HeaderRules.{seen_of}
+use Rattle.igvm_image.specs.FileFault.{section_fault}
 use Rattle.igvm_image.specs.AcceptedLaws.{fixed_form-fields}
 use Rattle.igvm_image.proofs.HeadersLemmas.{fault_of-section, decoded-headers_of}
 use Rattle.std.proofs.lemmas.List.{length-map}

@@ -4,9 +4,9 @@ use Rattle.igvm_headers.specs.declared.fixed.FixedHeader.{FixedHeader}
 use Rattle.igvm_headers.specs.Fixed.{fixed_fields}
 use Rattle.igvm_headers.specs.Pages.{file_body}
 use Rattle.igvm_image.specs.Areas.{areas_of}
-use Rattle.igvm_image.specs.Fits.{PagesFit}
+use Rattle.igvm_image.specs.PagesFit.{PagesFit}
 use Rattle.igvm_image.specs.Pieces.{pieces}
-use Rattle.igvm_image.specs.Reading.{section_of}
+use Rattle.igvm_image.specs.FileFault.{section_of}
 use Rattle.igvm_image.specs.Headers.{PlacedHeader, headers_of, placed_from, placed_headers, pieces_of}
 use Rattle.igvm_image.proofs.FitsLemmas.{headers_fit}
 use Rattle.igvm_image.proofs.view.ImageView.headers.Goals as goal

@@ -1,54 +1,35 @@
 -- The rules on a header among those before it: docs/FORMAT.md has them in words, in this order.
-use Rattle.std.specs.Prelude.{◌≡◌, ℕ, ◌+◌, ◌/◌, ◌%◌, ◌^◌, max, List, [], ◌∷◌, ◌++◌, length, fold, ◌==◌, ◌&&◌, ◌||◌, nat_lt, nat_le, not, is_some, is_none, unwrap_or, if◌then◌else◌, Bool, false, Option, Some, None}
-use Rattle.std.specs.List.{list_any}
-use Rattle.igvm_headers.specs.Records.{is_set}
+use Rattle.std.specs.Prelude.{◌≡◌, ℕ, ◌+◌, ◌%◌, ◌^◌, max, List, [], ◌∷◌, ◌++◌, length, map, fold, ◌==◌, ◌&&◌, ◌||◌, nat_lt, nat_le, not, is_some, is_none, unwrap_or, if◌then◌else◌, Bool, false, Option, Some, None}
+use Rattle.std.specs.List.{list_any, range_with_len}
+use Rattle.igvm_headers.specs.HeaderFacts.{class_of}
+use Rattle.igvm_headers.specs.Pages.{page_bytes}
 use Rattle.igvm_headers.specs.declared.header.Header.{Header}
-use Rattle.igvm_headers.specs.declared.header.Header.TheVariants.{Platform, Policy, Area, Page, Insert, Param, Context, Carried}
+use Rattle.igvm_headers.specs.declared.header.Header.TheVariants.{Platform, Area, Page, Insert, Param, Context}
 use Rattle.igvm_headers.specs.declared.fault.ReadWhat.{ReadWhat}
 use Rattle.igvm_headers.specs.declared.fault.ReadWhat.TheVariants.{Order, Mask, Align, AreaLimit, AreaRepeated, AreaUnknown, AreaSize, Wrap, DataOutside, TooManyPages}
 use Rattle.platform_masks.specs.declared.platform.Platform as platform
 use Rattle.platform_masks.specs.Platforms.{platform_of, platforms_of}
 use Rattle.igvm_image.specs.declared.area_table.AreaEntry.{AreaEntry}
-use Rattle.igvm_image.specs.Areas.{areas_of, area_entry, area_size}
+use Rattle.igvm_image.specs.Areas.{areas_of, area_entry, area_size, placed_pages}
 use Rattle.std.specs.Option.{option_to_list}
-
--- The class that a header's type has in the order of headers: 1 for 0x1, 2 for 0x101 to 0x103, 3 for 0x301 to
--- 0x313, and 0 for a type with bit 31 set, which has none.
-abbrev pub carried_class : ℕ → ℕ
-carried_class kind = if is_set 31 kind then 0 else if kind == 0x311 then 3 else 2
-
-abbrev pub class_of : Header → ℕ
-class_of (Platform mask highest_vtl kind version shared_gpa) = 1
-class_of (Policy policy mask) = 2
-class_of (Carried kind length) = carried_class kind
-class_of _ = 3
 
 -- the latest class among these headers
 abbrev pub latest_class : List Header → ℕ
 latest_class headers = fold (λ latest header. max latest (class_of header)) 0 headers
 
--- the numbers with exactly one of 32 bits set
+-- the masks with exactly one of 32 bits set
 abbrev pub one_bit_masks : List ℕ
-one_bit_masks =
-    0x1 ∷ 0x2 ∷ 0x4 ∷ 0x8 ∷ 0x10 ∷ 0x20 ∷ 0x40 ∷ 0x80 ∷
-    0x100 ∷ 0x200 ∷ 0x400 ∷ 0x800 ∷ 0x1000 ∷ 0x2000 ∷ 0x4000 ∷ 0x8000 ∷
-    0x10000 ∷ 0x20000 ∷ 0x40000 ∷ 0x80000 ∷ 0x100000 ∷ 0x200000 ∷ 0x400000 ∷ 0x800000 ∷
-    0x1000000 ∷ 0x2000000 ∷ 0x4000000 ∷ 0x8000000 ∷ 0x10000000 ∷ 0x20000000 ∷ 0x40000000 ∷ 0x80000000 ∷ []
+one_bit_masks = map (λ bit. 2 ^ bit) (range_with_len 0 32)
 
+-- a mask has exactly one bit set
 unfoldable pub is_one_bit : ℕ → Bool
 is_one_bit mask = list_any (λ bit. bit == mask) one_bit_masks
-
--- how many pages of 4,096 bytes a header names, where these areas are declared
-abbrev pub pages_of : List AreaEntry → Header → ℕ
-pages_of areas (Page gpa mask offset large unmeasured kind) = if large then 512 else 1
-pages_of areas (Insert gpa mask area) = unwrap_or (area_size areas area) 0 / 4096
-pages_of areas _ = 0
 
 -- how many pages these headers name together, where each knows the areas before it
 abbrev pub named_from : List AreaEntry → List Header → ℕ
 named_from areas [] = 0
 named_from areas (header ∷ headers) =
-    pages_of areas header + named_from (areas ++ option_to_list (area_entry header)) headers
+    placed_pages areas header + named_from (areas ++ option_to_list (area_entry header)) headers
 
 abbrev pub named_pages : List Header → ℕ
 named_pages headers = named_from [] headers
@@ -74,7 +55,7 @@ seen_after seen header = record {
   latest = max seen.latest (class_of header);
   platforms = seen.platforms ++ platform_of (length seen.platforms) header;
   areas = seen.areas ++ option_to_list (area_entry header);
-  pages = seen.pages + pages_of seen.areas header;
+  pages = seen.pages + placed_pages seen.areas header;
 }
 
 -- an earlier header has a later class
@@ -89,7 +70,7 @@ breaks_mask seen _ = false
 
 -- a guest physical address is no multiple of the page's size
 abbrev pub breaks_align : Header → Bool
-breaks_align (Page gpa mask offset large unmeasured kind) = not (gpa % (if large then 2097152 else 4096) == 0)
+breaks_align (Page gpa mask offset large unmeasured kind) = not (gpa % page_bytes large == 0)
 breaks_align (Insert gpa mask area) = not (gpa % 4096 == 0)
 breaks_align (Context gpa mask offset vp) = not (gpa % 4096 == 0)
 breaks_align _ = false
@@ -125,14 +106,14 @@ abbrev pub passes : ℕ → ℕ → ℕ → Bool
 passes total offset size = not (offset == 0) && nat_lt total (offset + size)
 
 abbrev pub breaks_data : ℕ → Header → Bool
-breaks_data total (Page gpa mask offset large unmeasured kind) = passes total offset (if large then 2097152 else 4096)
+breaks_data total (Page gpa mask offset large unmeasured kind) = passes total offset (page_bytes large)
 breaks_data total (Area bytes area offset) = passes total offset bytes
 breaks_data total (Context gpa mask offset vp) = nat_lt total offset
 breaks_data total _ = false
 
 -- the pages named so far, with this header's, are more than 4,194,304
 abbrev pub breaks_pages : Seen → Header → Bool
-breaks_pages seen header = nat_lt 4194304 (seen.pages + pages_of seen.areas header)
+breaks_pages seen header = nat_lt 4194304 (seen.pages + placed_pages seen.areas header)
 
 -- the first of these rules that a header breaks, in a file of this total size and behind these headers
 unfoldable pub rule_fault : ℕ → Seen → Header → Option ReadWhat

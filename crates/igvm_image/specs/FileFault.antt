@@ -1,9 +1,9 @@
 -- What is wrong with a file: the first rule that it breaks, and where.
-use Rattle.std.specs.Prelude.{ℕ, ◌+◌, List, [], ◌∷◌, ◌++◌, length, take, replicate, nat_lt, not, ◌==◌, ◌||◌, if◌then◌else◌, Option, Some, None, Result, Ok, Err}
+use Rattle.std.specs.Prelude.{ℕ, ◌+◌, ◌-◌, List, [], ◌∷◌, ◌++◌, length, take, replicate, nat_lt, not, ◌==◌, ◌||◌, if◌then◌else◌, Option, Some, None, Result, Ok, Err}
 use Rattle.igvm_headers.specs.Numbers.{slice}
 use Rattle.igvm_headers.specs.Checksum.{crc}
-use Rattle.igvm_headers.specs.Fixed.{fixed_form, fault_at}
-use Rattle.igvm_headers.specs.Records.{header_form}
+use Rattle.igvm_headers.specs.Fixed.{fixed_form, fixed_size, fault_at}
+use Rattle.igvm_headers.specs.HeaderForm.{header_form}
 use Rattle.igvm_headers.specs.declared.fixed.FixedHeader.{FixedHeader}
 use Rattle.igvm_headers.specs.declared.header.Header.{Header}
 use Rattle.igvm_headers.specs.declared.fault.HeaderFault.{HeaderFault}
@@ -12,22 +12,26 @@ use Rattle.igvm_headers.specs.declared.fault.ReadFault.{ReadFault}
 use Rattle.igvm_headers.specs.declared.fault.ReadWhat.{ReadWhat}
 use Rattle.igvm_headers.specs.declared.fault.ReadWhat.TheVariants.{TotalSize, Section, Checksum, HeaderCut, UnknownType, Length, Flags, DataType, PlatformType, NoPlatform}
 use Rattle.igvm_image.specs.Pieces.{Piece, size_of, pieces, cut}
-use Rattle.igvm_image.specs.Rules.{Seen, seen_of, rule_fault}
+use Rattle.igvm_image.specs.HeaderRules.{Seen, seen_of, rule_fault}
 use Rattle.platform_masks.specs.Platforms.{platforms_of}
 
 -- the variable header section of a file
 abbrev pub section_of : List ℕ → FixedHeader → List ℕ
 section_of file fixed = slice file fixed.var_offset fixed.var_size
 
+-- what the fixed header has after its checksum: nothing in version 1, and 8 bytes in version 2
+abbrev pub after_checksum : List ℕ → FixedHeader → List ℕ
+after_checksum file fixed = slice file 24 (fixed_size fixed.version - 24)
+
 -- the checksum's message: the fixed header with zeros for the checksum, and the section
 abbrev pub checked_bytes : List ℕ → FixedHeader → List ℕ
-checked_bytes file fixed = take 20 file ++ replicate 4 0 ++ section_of file fixed
+checked_bytes file fixed = take 20 file ++ replicate 4 0 ++ after_checksum file fixed ++ section_of file fixed
 
 -- the first rule on the fixed header's fields that fails
 abbrev pub fields_fault : List ℕ → FixedHeader → Option ReadFault
 fields_fault file fixed =
-    if nat_lt fixed.total 24 || nat_lt (length file) fixed.total then Some (fault_at 16 TotalSize) else
-    if nat_lt fixed.var_offset 24 || nat_lt fixed.total (fixed.var_offset + fixed.var_size) then
+    if nat_lt fixed.total (fixed_size fixed.version) || nat_lt (length file) fixed.total then Some (fault_at 16 TotalSize) else
+    if nat_lt fixed.var_offset (fixed_size fixed.version) || nat_lt fixed.total (fixed.var_offset + fixed.var_size) then
     Some (fault_at 8 Section) else
     if not (crc (checked_bytes file fixed) == fixed.checksum) then Some (fault_at 20 Checksum) else
     None

@@ -1,7 +1,7 @@
 -- What a view keeps of its file.
 use Rattle.std.specs.Prelude.{◌≡◌, ◌≤◌, ◌+◌, length}
 use Rattle.igvm_headers.specs.Fixed.{fixed_fields}
-use Rattle.igvm_image.specs.Rules.{seen_of}
+use Rattle.igvm_image.specs.HeaderRules.{seen_of}
 use Rattle.igvm_image.specs.Headers.{IsAccepted, headers_of, placed_headers}
 use Rattle.igvm_image.specs.declared.view.ImageView.TheInside.{Inside}
 

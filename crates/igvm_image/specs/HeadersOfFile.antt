@@ -3,13 +3,13 @@ use Rattle.std.specs.Prelude.{◌≡◌, ℕ, ◌+◌, List, take, sum_by, nat_l
 use Rattle.std.specs.List.{slice_get}
 use Rattle.igvm_headers.specs.Fixed.{fixed_fields, fault_at}
 use Rattle.igvm_headers.specs.Pages.{file_body}
-use Rattle.igvm_headers.specs.Records.{header_form}
+use Rattle.igvm_headers.specs.HeaderForm.{header_form}
 use Rattle.igvm_headers.specs.declared.header.Header.{Header}
 use Rattle.igvm_headers.specs.declared.fault.ReadFault.{ReadFault}
 use Rattle.igvm_headers.specs.declared.fault.ReadWhat.TheVariants.{TooShort, TotalSize}
 use Rattle.igvm_image.specs.Data.{data_of, data_in}
 use Rattle.igvm_image.specs.Pieces.{Piece, size_of}
-use Rattle.igvm_image.specs.Rules.{seen_of, rule_fault}
+use Rattle.igvm_image.specs.HeaderRules.{seen_of, rule_fault}
 use Rattle.igvm_image.specs.Headers.{PlacedHeader, pieces_of, placed_headers, headers_of}
 
 -- the file offset of piece k: the section's offset and the padded sizes of the pieces before
@@ -31,9 +31,9 @@ pub record Spells (file : List ℕ) (k : ℕ) (p : Piece) (header : Header) : Ty
   pub form : header_form p.kind p.content ≡ Ok header
   pub placed : slice_get (placed_headers file) k ≡ Some (header_at file k p header)
 
--- the fault of the first n bytes of an accepted file of more bytes
-abbrev pub cut_fault : ℕ → ReadFault
-cut_fault n = if nat_lt n 24 then fault_at n TooShort else fault_at 16 TotalSize
+-- the fault of the first n bytes of an accepted file of more bytes, whose fixed header has that size
+abbrev pub cut_fault : ℕ → ℕ → ReadFault
+cut_fault size n = if nat_lt n size then fault_at n TooShort else fault_at 16 TotalSize
 
 -- A header of a file of this total size and with this body, as the reader accepts it: it has the form of its type, has
 -- its own data, and breaks no rule behind the headers before it.

@@ -3,9 +3,9 @@ use Rattle.std.specs.Prelude.{if◌then◌else◌, ◌==◌}
 use Rattle.igvm_headers.specs.Fixed.{fault_at}
 use Rattle.igvm_headers.specs.declared.fault.ReadWhat.TheVariants.{NoPlatform}
 use Rattle.igvm_image.proofs.Walking.{Walking, walking_start, walking_fault, walking_step, walking_cut, walking_done, walking_all, walking_follows, walking_content}
-use Rattle.igvm_image.specs.Rules.{Seen, seen_of}
+use Rattle.igvm_image.specs.HeaderRules.{Seen, seen_of}
 use Rattle.igvm_image.proofs.PiecesLemmas.{piece_at-shorter}
-use Rattle.igvm_image.proofs.reading.read_section.Goals as goal
+use Rattle.igvm_image.proofs.file_rules.read_section.Goals as goal
 
 pub headers-init : goal.headers-init
 headers-init c =

@@ -3,7 +3,7 @@
 use Rattle.std.specs.Prelude.{◌≡◌, ℕ, ◌≤◌, List, map, eqb, true}
 use Rattle.std.specs.List.{AllByRecursion, IsDistinct}
 use Rattle.platform_masks.specs.declared.platform.Platform.{Platform}
-use Rattle.igvm_image.specs.Rules.{is_one_bit}
+use Rattle.igvm_image.specs.HeaderRules.{is_one_bit}
 
 abbrev pub masks_of : List Platform → List ℕ
 masks_of platforms = map (λ p. p.mask) platforms

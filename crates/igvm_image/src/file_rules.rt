@@ -1,9 +1,9 @@
 //! The reader: the rules of docs/FORMAT.md in their order.
-ghost use Rattle.std.specs.Prelude.{◌≡◌, ◌<◌, ◌≤◌, ◌+◌, ◌^◌, [], length, None, Some, Ok, IfOk, IfErr, OnOk, ◌++◌, replicate, take};
-ghost use Rattle.igvm_headers.specs.Fixed.{fixed_form};
+ghost use Rattle.std.specs.Prelude.{◌≡◌, ◌<◌, ◌≤◌, ◌+◌, ◌^◌, [], length, None, Some, Ok, IfOk, IfErr, OnOk, ◌++◌, replicate, take, drop};
+ghost use Rattle.igvm_headers.specs.Fixed.{fixed_form, fixed_size};
 ghost use Rattle.igvm_headers.specs.Checksum.{crc};
-ghost use Rattle.igvm_image.specs.Rules.{seen_of};
-ghost use Rattle.igvm_image.specs.Reading.{what_of, judged, section_fault, section_of, checked_bytes, fields_fault, fault_of};
+ghost use Rattle.igvm_image.specs.HeaderRules.{seen_of};
+ghost use Rattle.igvm_image.specs.FileFault.{what_of, judged, section_fault, section_of, checked_bytes, fields_fault, fault_of};
 ghost use Rattle.igvm_image.specs.Headers.{decoded};
 ghost use Rattle.igvm_image.specs.Pieces.{pieces};
 ghost use Rattle.igvm_image.specs.PieceView.{piece_view};
@@ -36,7 +36,7 @@ fn what_of(fault: HeaderFault) -> ReadWhat
 }
 
 /// A header behind those seen, or the first rule that it breaks.
-#[tactic(auto, unfolding(crate::specs::Reading::judged))]
+#[tactic(auto, unfolding(crate::specs::FileFault::judged))]
 fn judged(seen: &SeenHeaders, total: u32, piece: &Piece<'_>) -> Result<Header, ReadWhat>
     requires { length piece.now.content.now < 2 ^ 32 }
     ensures { result ≡ judged total seen.now (piece_view piece.now).0 }
@@ -53,19 +53,21 @@ fn judged(seen: &SeenHeaders, total: u32, piece: &Piece<'_>) -> Result<Header, R
 
 /// The first rule that fails on the fixed header's fields: the total size, the section, the checksum.
 fn fields_fault(file: &[u8], fixed: &FixedHeader) -> Option<ReadFault>
-    requires { 24 ≤ length file.now }
+    requires { fixed_size fixed.now.version ≤ length file.now }
     ensures { result ≡ fields_fault file.now fixed.now }
 {
-    if fixed.total < 24 || file.len() < fixed.total as usize {
+    let size = fixed.size();
+    if fixed.total < size || file.len() < fixed.total as usize {
         let what = ReadWhat::TotalSize;
         return Some(ReadFault { at: 16, what });
     }
     let end = u64::from(fixed.var_offset) + u64::from(fixed.var_size);
-    if fixed.var_offset < 24 || u64::from(fixed.total) < end {
+    if fixed.var_offset < size || u64::from(fixed.total) < end {
         let what = ReadWhat::Section;
         return Some(ReadFault { at: 8, what });
     }
-    if checksum(&file[..20], section_of(file, fixed)) != fixed.checksum {
+    let front = &file[..size as usize];
+    if checksum(front, section_of(file, fixed)) != fixed.checksum {
         let what = ReadWhat::Checksum;
         return Some(ReadFault { at: 20, what });
     }
@@ -90,12 +92,14 @@ pub(crate) fn body_of<'a>(file: &'a [u8], fixed: &FixedHeader) -> &'a [u8]
     &file[..fixed.total as usize]
 }
 
-/// The checksum of the fixed header's first 20 bytes, zeros for the checksum, and the section.
+/// The checksum of the fixed header, with zeros for the checksum itself, and the section.
 fn checksum(fixed: &[u8], section: &[u8]) -> u32
-    ensures { result ≡ crc (fixed.now ++ replicate 4 0 ++ section.now) }
+    requires { 24 ≤ length fixed.now }
+    ensures { result ≡ crc (take 20 fixed.now ++ replicate 4 0 ++ drop 24 fixed.now ++ section.now) }
 {
-    let state = crc_more(crc_begin(), fixed);
+    let state = crc_more(crc_begin(), &fixed[..20]);
     let state = crc_more(state, &[0; 4]);
+    let state = crc_more(state, &fixed[24..]);
     crc_end(crc_more(state, section))
 }
 
@@ -133,7 +137,7 @@ pub(crate) fn read_section(section: &[u8], start: u32, total: u32) -> Result<Con
 }
 
 /// The fixed header of a file that keeps the rules on the whole file, or the first that it breaks.
-#[tactic(auto, unfolding(crate::specs::Reading::fault_of, igvm_headers::specs::Fixed::fixed_form))]
+#[tactic(auto, unfolding(crate::specs::FileFault::fault_of, igvm_headers::specs::Fixed::fixed_form))]
 pub(crate) fn check_file(file: &[u8]) -> Result<FixedHeader, ReadFault>
     ensures fields { IfOk result (λ fixed. fixed_form file.now ≡ Ok fixed) }
     ensures kept { IfOk result (λ fixed. fields_fault file.now fixed ≡ None) }
