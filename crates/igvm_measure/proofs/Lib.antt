@@ -1,3 +1,11 @@
-pub mod PagesLemmas
-pub mod Measuring
+pub mod Adding
 pub mod TrailingDigests
+pub mod Cuts
+pub mod Clashes
+pub mod ChainBinding
+pub mod StreamBinding
+pub mod Addresses
+pub mod FileBinding
+pub mod RunLemmas
+pub mod PageBytes
+pub mod WalkLemmas

@@ -1,4 +1,10 @@
+pub mod Measured
+pub mod Records
 pub mod Digests
+pub mod Hashed
+pub mod PageRows
+pub mod Runs
+pub mod Walks
 pub use Rattle.snp_chain.specs.Chain
 pub use Rattle.tdx_chain.specs.Stream
 pub use Rattle.igvm_image.specs.Headers

@@ -1,14 +1,18 @@
-//! The launch digest of an image, from the file alone.
+//! The launch digest of an image, from the file alone, and what it stands for.
 #![tactic(auto)]
 
-mod chaining;
-mod contents;
-mod laws;
+mod alike;
+pub mod laws;
 mod measure;
-mod places;
-mod streaming;
+mod page_digests;
+mod page_row;
+mod run;
+mod same;
+mod snp;
+mod tdx;
 #[cfg(test)]
 mod tests;
+mod walk;
 
-pub use laws::trailing_bytes;
+pub use alike::measured_alike;
 pub use measure::{NoDigest, measure_image};
