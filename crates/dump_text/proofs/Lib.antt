@@ -1,4 +1,3 @@
-pub mod Nothing
 pub mod Results
 pub mod Places
 pub mod Progress

@@ -2,7 +2,7 @@
 use Rattle.std.proofs.Common.{◌≡◌, ℕ, suc, ◌+◌, List, [], ◌∷◌, ◌++◌, length, map, take, refl, sym, ap, ◌∙◌, add-zero, arith, Result, Ok, Err}
 use Rattle.std.proofs.lemmas.List.{length-map, map-append}
 use Rattle.std.proofs.Math.Seq.{take-append_seam}
-use Rattle.igvm_headers.specs.Records.{header_form}
+use Rattle.igvm_headers.specs.HeaderForm.{header_form}
 use Rattle.igvm_headers.specs.declared.header.Header.{Header}
 use Rattle.igvm_headers.specs.declared.fault.HeaderFault.{HeaderFault}
 use Rattle.igvm_image.specs.Pieces.{Piece, size_of}

@@ -1,6 +1,6 @@
 -- Facts on results that are handed on.
 use Rattle.std.proofs.Common.{ℕ, ◌≤◌, inl, inr, arith, Result, Ok, Err, OnOk, OnErr}
-use Rattle.igvm_headers.specs.Causes.{Rose}
+use Rattle.igvm_headers.specs.FaultCounts.{Rose}
 
 pub ok_then : {T E : Type 0} (r : Result T E) (P Q : Type 0) → (P → Q) → OnOk r P → OnOk r Q
 ok_then (Ok x) P Q f h = f h

@@ -1,8 +1,10 @@
 pub mod Fields
 pub mod Lines
 pub mod Listing
-pub use Rattle.igvm_headers.specs.Causes
-pub use Rattle.igvm_headers.specs.Names
+pub use Rattle.igvm_headers.specs.FaultCounts
+pub use Rattle.igvm_headers.specs.PlatformKinds
+pub use Rattle.igvm_headers.specs.PageKinds
+pub use Rattle.igvm_headers.specs.ParamKinds
 pub use Rattle.igvm_outside.specs.Outputs
 pub use Rattle.igvm_image.specs.Headers
 pub use Rattle.platform_masks.specs.Platforms

@@ -3,10 +3,10 @@ ghost use Rattle.std.specs.Prelude.{◌≡◌, ℕ, ◌<◌, ◌≤◌, ◌+◌,
 ghost use Rattle.std.specs.Fmt.{decimal};
 ghost use Rattle.dump_text.specs.Fields.{eight_digits, sixteen_digits, byte_digits};
 
-use crate::gathered::Gathered;
+use crate::line_buffer::LineBuffer;
 use itoa::Buffer;
 
-impl Gathered {
+impl LineBuffer {
     /// A label and a word.
     pub(crate) fn word(&mut self, label: &str, word: &str)
         requires { length self.old + length label.now + length word.now ≤ 16384 }

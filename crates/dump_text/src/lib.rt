@@ -2,10 +2,10 @@
 #![tactic(auto)]
 
 mod fields;
-mod gathered;
+mod header_texts;
+mod line_buffer;
 mod lines;
 mod printing;
-mod records;
 #[cfg(test)]
 mod tests;
 

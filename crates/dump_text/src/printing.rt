@@ -1,10 +1,10 @@
 //! The listing of an image: docs/PROGRAM.md, "The listing".
 ghost use Rattle.std.specs.Prelude.{◌≡◌, ℕ, ◌≤◌, length, take, OnOk, OnErr};
-ghost use Rattle.igvm_headers.specs.Causes.{HasCause};
+ghost use Rattle.igvm_headers.specs.FaultCounts.{HasCause};
 ghost use Rattle.igvm_outside.specs.Outputs.{gained};
 ghost use Rattle.dump_text.specs.Listing.{print_text};
 
-use crate::gathered::Gathered;
+use crate::line_buffer::LineBuffer;
 use crate::lines::{platforms_in, push_first_line, push_line};
 use igvm_headers::Failed;
 use igvm_image::ImageView;
@@ -21,7 +21,7 @@ pub fn print_image<O: Sink>(view: &ImageView<'_>, out: &mut O) -> Result<(), Fai
     ensures counted { O.faults out.old ≤ O.faults out.new }
 {
     platforms_of_more();
-    let mut text = Gathered::new();
+    let mut text = LineBuffer::new();
     push_first_line(&mut text, view);
     let mut number = 0;
     'headers: for placed in view.headers() {

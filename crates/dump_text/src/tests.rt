@@ -450,7 +450,16 @@ impl Example {
     }
 }
 
-/// The fixed header and a section, where so many bytes of data follow.
+/// A file of version 2 with one platform, and its listing.
+const VERSION_2: &[u8] =
+    b"IGVM\x02\0\0\0\x20\0\0\0\x18\0\0\0\x38\0\0\0\x3f\x26\x3a\xfa\0\0\0\0\0\x10\0\0\
+    \x01\0\0\0\x10\0\0\0\x01\0\0\0\0\x02\x01\0\0\0\0\0\0\0\0\0";
+
+const VERSION_2_LISTING: &str =
+    "igvm version 2 section 32 24 total 56 headers 1 architecture x64 page 4096\n\
+    0 at 32 platform 0 mask 00000001 kind snp vtl 0 version 1 shared 0000000000000000\n";
+
+/// The fixed header of version 1 and a section, where so many bytes of data follow.
 fn image(alloc: Global, section: &[u8], data: u32) -> Result<Vec<u8>, AllocError> {
     let size = u32::try_from(section.len()).unwrap_or(0);
     let total = size.saturating_add(24).saturating_add(data);
@@ -485,6 +494,14 @@ fn lists_images(rt: HostRuntime) -> Result<(), Fail> {
         let want = example.listing(rt.alloc())?;
         assert_eq!(rt; out.bytes(), want.as_bytes());
     }
+    Ok(())
+}
+
+#[test]
+fn lists_version_2(rt: HostRuntime) -> Result<(), Fail> {
+    let mut out = MemSink::new(rt.alloc());
+    assert_eq!(rt; print(&rt, VERSION_2, &mut out), Ok(()));
+    assert_eq!(rt; out.bytes(), VERSION_2_LISTING.as_bytes());
     Ok(())
 }
 

@@ -7,6 +7,7 @@ unfolding fixed_line
 returns c =
     rw (
       c.push.ensures,
+      c.push_added.ensures.text,
       c.number-5.ensures.text,
       c.number-4.ensures.text,
       c.number-3.ensures.text,

@@ -1,7 +1,7 @@
-//! Text that is gathered until there is enough of it to be put.
+//! A buffer of lines, which are put together.
 ghost use Rattle.std.specs.Prelude.{◌≡◌, ℕ, ◌≤◌, ◌+◌, ◌*◌, ◌++◌, List, [], length, take, OnOk, OnErr};
 ghost use Rattle.hex.specs.Hex.{encode_lower};
-ghost use Rattle.igvm_headers.specs.Causes.{HasCause};
+ghost use Rattle.igvm_headers.specs.FaultCounts.{HasCause};
 ghost use Rattle.igvm_outside.specs.Outputs.{gained};
 
 use igvm_headers::Failed;
@@ -16,12 +16,12 @@ const LONGEST: usize = 512;
 
 /// Text that is not put yet. Contracts see its bytes; there is room for 16,384.
 #[derive(Drop)]
-pub(crate) struct Gathered {
+pub(crate) struct LineBuffer {
     bytes: [u8; CAPACITY],
     count: usize,
 }
 
-impl Model for Gathered {
+impl Model for LineBuffer {
     ghost use Rattle.std.specs.Prelude.{List, ℕ, ◌≤◌, take};
 
     ghost Value = { List ℕ };
@@ -31,12 +31,12 @@ impl Model for Gathered {
     ghost invariant = { λ s. s.count ≤ 16384 };
 }
 
-impl Gathered {
+impl LineBuffer {
     /// No text.
-    pub(crate) fn new() -> Gathered
+    pub(crate) fn new() -> LineBuffer
         ensures { result ≡ [] }
     {
-        Gathered {
+        LineBuffer {
             bytes: [0; CAPACITY],
             count: 0,
         }
