@@ -4,6 +4,7 @@ use Rattle.std.specs.Prelude.{if◌then◌else◌, nat_lt}
 use Rattle.std.specs.List.{range_with_len, AllByRecursion}
 use Rattle.std.proofs.lemmas.Bool.{ltb-false}
 use Rattle.std.proofs.lemmas.List.FromFn.{length-map-range_with_len}
+use Rattle.igvm_headers.specs.Pages.{small_pages}
 use Rattle.igvm_headers.specs.declared.header.Header.{Header}
 use Rattle.igvm_headers.specs.declared.header.Header.TheVariants.{Area, Page, Context}
 use Rattle.igvm_headers.specs.declared.fault.ReadWhat.TheVariants as what
@@ -15,17 +16,17 @@ use Rattle.component_list.specs.declared.refusal.ExpandRefusal.TheVariants.{TooL
 use Rattle.component_list.specs.declared.source.Directive.{Directive}
 use Rattle.component_list.specs.declared.source.Directive.TheVariants as directive
 use Rattle.component_list.specs.declared.source.PageRun.{PageRun}
-use Rattle.component_list.specs.Components.{offset_of, with_offset}
-use Rattle.component_list.specs.Expansion.{Progress, added, with_added, parts_of, pages_named, content_bytes, breaks_size, breaks_end, page_at, page_parts, pages_for, small_pages, bytes_or_none}
+use Rattle.igvm_headers.specs.HeaderFacts.{data_offset, with_offset}
+use Rattle.component_list.specs.Expansion.{Progress, added, with_added, parts_of, pages_named, content_bytes, breaks_size, breaks_end, page_at, page_parts, pages_for, bytes_or_none}
 
 -- a component at file offset 0
 abbrev pub IsAtStart : Component → Type 0
-IsAtStart c = offset_of c.header ≡ 0
+IsAtStart c = data_offset c.header ≡ 0
 
-pages_few : (run : PageRun) (content : ℕ → Content) (count : ℕ) → length (page_parts run content count) ≤ 1 + small_pages run * count
+pages_few : (run : PageRun) (content : ℕ → Content) (count : ℕ) → length (page_parts run content count) ≤ 1 + small_pages run.large * count
 pages_few run content count = cases run.large (length-map-range_with_len (λ k. page_at run k (content k)) 0 count)
   where
-    cases : (large : Bool) → length (page_parts run content count) ≡ count → length (page_parts run content count) ≤ 1 + (if large then 512 else 1) * count
+    cases : (large : Bool) → length (page_parts run content count) ≡ count → length (page_parts run content count) ≤ 1 + small_pages large * count
     cases true size = omega arith
     cases false size = omega arith
 
@@ -37,7 +38,7 @@ parts_few (directive.Area area bytes name) file = omega arith
 parts_few (directive.Context gpa mask vp name) file = omega arith
 parts_few (directive.Plain header tail) file = omega arith
 
-pub offset_0 : (h : Header) → offset_of (with_offset 0 h) ≡ 0
+pub offset_0 : (h : Header) → data_offset (with_offset 0 h) ≡ 0
 offset_0 (Area bytes area offset) = refl
 offset_0 (Page gpa mask offset large unmeasured kind) = refl
 offset_0 (Context gpa mask offset vp) = refl

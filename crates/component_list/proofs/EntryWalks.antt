@@ -9,8 +9,8 @@ use Rattle.serde_json.specs.declared.value.Value.{Value}
 use Rattle.component_list.specs.declared.refusal.ListPart.{ListPart}
 use Rattle.component_list.specs.declared.refusal.ListRefusal.{ListRefusal}
 use Rattle.component_list.specs.declared.refusal.ListRefusal.TheVariants.{Field}
-use Rattle.component_list.specs.Sources.{before, entries_from, entries_of}
-use Rattle.component_list.specs.Walks.{with_front}
+use Rattle.component_list.specs.ListForms.{before, entries_from, entries_of}
+use Rattle.component_list.specs.EntryArrays.{with_front}
 
 -- the kit's lemma, under a name that an attribute can have
 pub items_len_is : (vs : List Value) → items_len (items_view vs) ≡ length vs

@@ -1,8 +1,9 @@
--- Two components are equal exactly where they are one, from the numbers of their headers up.
-use Rattle.std.proofs.Common.{◌≡◌, Bool, true, true≢false, sym, subst, ℕ, List, rules, ◌&&◌, ◌==◌, Decides}
+-- Two lists, and two components, are equal exactly where they are one, from the numbers of their headers up.
+use Rattle.std.proofs.Common.{◌≡◌, Bool, true, true≢false, refl, sym, subst, ℕ, List, rules, ◌&&◌, ◌==◌, Decides}
 use Rattle.std.specs.Cmp.{first_so, second_so, booleans_Decides}
 use Rattle.std.specs.Cmp.Lexicographic.{bytes_decides}
 use Rattle.std.proofs.lemmas.Bool.Decides.{Decides-eqb}
+use Rattle.std.proofs.lemmas.Slice.Eq.{slice_eq-Decides}
 use Rattle.igvm_headers.specs.declared.page_kind.PageKind.{PageKind}
 use Rattle.igvm_headers.specs.declared.header.Header.{Header}
 use Rattle.igvm_headers.specs.declared.header.Header.TheVariants.{Platform, Policy, Area, Page, Insert, Param, Context, Required, ErrorRange, IdBlock, Carried}
@@ -15,6 +16,9 @@ use Rattle.component_list.specs.contracts.blob.BlobPartialEq.TheImpl as blob_equ
 use Rattle.component_list.specs.contracts.component.ContentPartialEq.TheImpl as content_equality
 use Rattle.component_list.specs.contracts.component.ComponentPartialEq.TheImpl as component_equality
 use Rattle.component_list.specs.contracts.component.ComponentEq.TheImpl.Laws.{laws-law}
+use Rattle.component_list.specs.contracts.list.ComponentListPartialEq.TheImpl as list_equality
+use Rattle.component_list.specs.contracts.list.ComponentListEq.TheImpl.Laws as lists_laws
+use Rattle.component_list.specs.Lists.{ImageParts}
 
 -- what each of two tests tells
 both : {s t : Bool} {P Q : Type 0} → (s ≡ true → P) → (t ≡ true → Q) → (s && t) ≡ true → P × Q
@@ -60,3 +64,16 @@ component_same x y h =
 
 pub components_exact : (x y : Component) → Decides ((component_equality.ghosts).eq x y) (x ≡ y)
 components_exact x y = (component_same x y, λ same. subst (λ z. (component_equality.ghosts).eq x z ≡ true) same (laws-law.refl x))
+
+-- lists of one version are as long, and each two components are one
+pub lists_exact : (x y : ImageParts) → Decides ((list_equality.ghosts).eq x y) (x ≡ y)
+lists_exact x y = (same, λ is. subst (λ z. (list_equality.ghosts).eq x z ≡ true) is (lists_laws.laws-law.refl x))
+  where
+    same : (list_equality.ghosts).eq x y ≡ true → x ≡ y
+    same h =
+        let versions = both (number x.version y.version) ((slice_eq-Decides components_exact x.parts y.parts _ refl).0) h in
+        λ i. record { version = versions.0 i; parts = versions.1 i }
+
+-- so a test that says as much decides it too
+pub lists_decided : (x y : ImageParts) (test : Bool) → test ≡ (list_equality.ghosts).eq x y → Decides test (x ≡ y)
+lists_decided x y test same = subst (λ b. Decides b (x ≡ y)) (sym same) (lists_exact x y)

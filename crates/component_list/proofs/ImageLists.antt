@@ -1,5 +1,5 @@
 -- The list of an accepted file breaks no rule.
-use Rattle.std.proofs.Common.{◌≡◌, ℕ, zero, suc, ◌+◌, ◌-◌, ◌*◌, ◌/◌, ◌%◌, ◌^◌, ◌<◌, ◌≤◌, List, [], ◌∷◌, ◌++◌, length, map, take, drop, replicate, length-append, append-nil, append_assoc, add-one, add-zero, zero-add, refl, sym, ◌∙◌, ap, ap₂, subst, arith, Option, Some, None, Bool, true, false}
+use Rattle.std.proofs.Common.{◌≡◌, ℕ, zero, suc, ◌+◌, ◌-◌, ◌*◌, ◌/◌, ◌%◌, ◌^◌, ◌<◌, ◌≤◌, List, [], ◌∷◌, ◌++◌, length, map, take, drop, replicate, length-append, append-nil, append_assoc, add-one, add-zero, zero-add, refl, sym, ◌∙◌, ap, ap₂, subst, arith, Option, Some, None, Ok, Bool, true, false}
 use Rattle.std.specs.Prelude.{if◌then◌else◌, ◌==◌, ◌&&◌, ◌||◌, not, nat_lt}
 use Rattle.std.proofs.lemmas.List.{take_at, map-append, length-map, length-take, length-take-le, length-drop, length-replicate, drop-drop}
 use Rattle.std.proofs.Math.Seq.{take-add}
@@ -9,26 +9,30 @@ use Rattle.std.proofs.lemmas.Bool.{eq-eqb}
 use Rattle.std.proofs.Math.Dec.{eqb-suc-zero}
 use Rattle.std.specs.List.{slice_get, flat_map, range_with_len, AllByRecursion}
 use Rattle.std.proofs.lemmas.Grind.{flat_map-append}
-use Rattle.igvm_headers.specs.Fixed.{fixed_fields}
-use Rattle.igvm_headers.specs.Pages.{file_body, body_page, padded_page}
+use Rattle.igvm_headers.specs.Fixed.{fixed_fields, fixed_fault, fixed_form, fixed_unless, fault_at, is_version}
+use Rattle.igvm_headers.specs.Numbers.{number_at}
+use Rattle.igvm_headers.specs.declared.fixed.FixedHeader.{FixedHeader}
+use Rattle.igvm_headers.specs.declared.fault.ReadFault.{ReadFault}
+use Rattle.igvm_headers.specs.Pages.{file_body, body_page, padded_page, page_bytes, small_pages}
 use Rattle.igvm_headers.specs.declared.header.Header.{Header}
 use Rattle.igvm_headers.specs.declared.header.Header.TheVariants.{Area, Page, Context}
 use Rattle.igvm_headers.specs.declared.fault.ReadWhat.{ReadWhat}
-use Rattle.igvm_headers.specs.declared.fault.ReadWhat.TheVariants.{NoPlatform}
+use Rattle.igvm_headers.specs.declared.fault.ReadWhat.TheVariants.{TooShort, Magic, Version, NoPlatform}
 use Rattle.platform_masks.specs.Platforms.{platforms_of}
 use Rattle.igvm_image.specs.Data.{Data, data_in, data_page}
-use Rattle.igvm_image.specs.Rules.{Seen, seen_of, rule_fault, breaks_area_size}
+use Rattle.igvm_image.specs.HeaderRules.{Seen, seen_of, rule_fault, breaks_area_size}
 use Rattle.igvm_image.specs.Headers.{PlacedHeader, IsAccepted, placed_headers, headers_of}
-use Rattle.igvm_image.specs.Laws.{IsAcceptedHeader}
+use Rattle.igvm_image.specs.HeadersOfFile.{IsAcceptedHeader}
 use Rattle.igvm_image.specs.RulesLaws.{keeps_rules}
-use Rattle.igvm_image.specs.AcceptedLaws.{header_kept, has_platform}
+use Rattle.igvm_image.specs.AcceptedLaws.{accepted_is, header_kept, has_platform}
 use Rattle.component_list.specs.declared.component.Component.{Component}
 use Rattle.component_list.specs.declared.component.Content.TheVariants.{Zero, Bytes}
-use Rattle.component_list.specs.Components.{with_offset, is_unknown, breaks_length, breaks_data_type, fits_content, fills, tail_size}
+use Rattle.component_list.specs.Components.{is_unknown, breaks_length, breaks_data_type, fits_content, fills}
+use Rattle.igvm_headers.specs.HeaderFacts.{with_offset, tail_size, header_tail}
 use Rattle.component_list.specs.Ranges.{IsComponent}
 use Rattle.component_list.specs.Lists.{component_fault, fault_behind, list_fault, unless_broken, IsValid}
 use Rattle.component_list.specs.Lists as lists
-use Rattle.component_list.specs.Images.{data_bytes, stored, content_of, tail_of, component_of, list_of}
+use Rattle.component_list.specs.ImageList.{data_bytes, stored, content_of, component_of, components_in}
 use Rattle.component_list.proofs.SameRules.{seen_same, rules_at, inside_at_0}
 use Rattle.component_list.proofs.ReadHeaders.{read_is}
 
@@ -92,7 +96,7 @@ content_fits : (body : List ℕ) (h : Header) → breaks_area_size h ≡ false �
 content_fits body (Area bytes area offset) kept = stored_fills offset _ bytes (whole_area bytes kept)
 content_fits body (Page gpa mask offset large unmeasured kind) kept = stored_fills offset _ _ (cases large)
   where
-    cases : (large : Bool) → 4096 * (if large then 512 else 1) ≡ (if large then 2097152 else 4096)
+    cases : (large : Bool) → 4096 * small_pages large ≡ page_bytes large
     cases true = refl
     cases false = refl
 content_fits body (Context gpa mask offset vp) kept = stored_fills offset _ 4096 refl
@@ -113,7 +117,7 @@ component_kept total body before placed is =
     let none : rule_fault total seen h ≡ None = ap (λ s. rule_fault total s h) (seen_same 0 before) ∙ is.rules in
     let read = read_is is.kind placed.raw h is.form in
     let known = unknown_same h ∙ read.known in
-    let tail : (length (tail_of h placed.raw) == tail_size (with_offset 0 h)) ≡ true = eq-eqb _ _ (read.tail ∙ sym (tail_same h)) in
+    let tail : (length (header_tail h placed.raw) == tail_size (with_offset 0 h)) ≡ true = eq-eqb _ _ (read.tail ∙ sym (tail_same h)) in
     let fits : fits_content (with_offset 0 h) (content_of h placed.content) ≡ true =
     ap (λ data'. fits_content (with_offset 0 h) (content_of h data')) is.content ∙ content_fits body h (keeps_rules total seen h none).size in
     let sized : breaks_length (component_of placed) ≡ false = ap₂ (λ a b. not (a && b)) tail fits in
@@ -161,7 +165,7 @@ behind_kept file done (p ∷ left) accepted all =
     ∙ ap (λ hs. fault_behind hs others) more
     ∙ behind_kept file (done ++ p ∷ []) left accepted (append_assoc done (p ∷ []) left ∙ all)
 
-pub image_list_kept : (file : List ℕ) → IsAccepted file → list_fault (list_of file) ≡ None
+pub image_list_kept : (file : List ℕ) → IsAccepted file → list_fault (components_in file) ≡ None
 image_list_kept file accepted = behind_kept file [] (placed_headers file) accepted refl
 
 -- one page more of data
@@ -199,9 +203,9 @@ listing_more all before p left made new c l first is fits pushed =
     }
 
 pub listing_end : (file : List ℕ) (left : List PlacedHeader) (made : List Component) → IsAccepted file → length (placed_headers file) < 2 ^ 32
-    → Listing (placed_headers file) left made → left ≡ [] → (made ≡ list_of file) × IsValid made
+    → Listing (placed_headers file) left made → left ≡ [] → (made ≡ components_in file) × IsValid made
 listing_end file left made accepted few l none =
-    let same : made ≡ list_of file = sym (append-nil made) ∙ ap (λ ps. made ++ map component_of ps) (sym none) ∙ l.same in (
+    let same : made ≡ components_in file = sym (append-nil made) ∙ ap (λ ps. made ++ map component_of ps) (sym none) ∙ l.same in (
       same,
       record {
         kept = ap list_fault same ∙ image_list_kept file accepted;
@@ -241,3 +245,27 @@ pub data_within : (data' : Data) → (data'.offset == 0) ≡ false → data'.off
     → data_bytes data' ≡ slice data'.body data'.offset (4096 * data'.pages)
 unfolding data_bytes
 data_within data' some within = rows_within data' data'.pages some within
+
+-- ---- the version
+
+-- a test that would have refused
+not_first : (b : Bool) (fault : ReadFault) (others : Option ReadFault) → (if b then Some fault else others) ≡ None → (b ≡ false) × (others ≡ None)
+not_first true fault others none = cc
+not_first false fault others none = (refl, none)
+
+unless_read : (fault : Option ReadFault) (file : List ℕ) (fixed : FixedHeader) → fixed_unless fault file ≡ Ok fixed → fault ≡ None
+unless_read None file fixed read = refl
+unless_read (Some fault) file fixed read = cc
+
+affirmed : (b : Bool) → not b ≡ false → b ≡ true
+affirmed true h = refl
+affirmed false h = cc
+
+pub image_version_known : (file : List ℕ) → IsAccepted file → is_version (fixed_fields file).version ≡ true
+unfolding fixed_form fixed_fault
+image_version_known file accepted =
+    let none = unless_read (fixed_fault file) file (fixed_fields file) (accepted_is file accepted).read in
+    let long = not_first (nat_lt (length file) 24) (fault_at (length file) TooShort) _ none in
+    let magic = not_first (not (number_at 4 0 file == 0x4D564749)) (fault_at 0 Magic) _ long.1 in
+    let version = not_first (not (is_version (number_at 4 4 file))) (fault_at 4 Version) _ magic.1 in
+    affirmed (is_version (number_at 4 4 file)) version.0

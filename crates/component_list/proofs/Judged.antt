@@ -5,7 +5,7 @@ use Rattle.std.specs.List.{AllByRecursion}
 use Rattle.igvm_headers.specs.declared.header.Header.{Header}
 use Rattle.igvm_headers.specs.declared.fault.ReadWhat.{ReadWhat}
 use Rattle.igvm_headers.specs.declared.fault.ReadWhat.TheVariants.{NoPlatform}
-use Rattle.igvm_image.specs.Rules.{Seen, MayFollow, seen_of, rule_fault}
+use Rattle.igvm_image.specs.HeaderRules.{Seen, MayFollow, seen_of, rule_fault}
 use Rattle.component_list.specs.declared.component.Component.{Component}
 use Rattle.component_list.specs.Ranges.{IsComponent}
 use Rattle.component_list.specs.Lists.{component_fault, fault_behind, list_fault, unless_broken, fault_in}

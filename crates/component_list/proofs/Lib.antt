@@ -8,3 +8,5 @@ pub mod Added
 pub mod Reached
 pub mod Stepping
 pub mod Equality
+pub mod FaultLaws
+pub mod RefusalLaws

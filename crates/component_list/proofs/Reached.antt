@@ -6,7 +6,7 @@ use Rattle.igvm_outside.specs.Files.{Files}
 use Rattle.component_list.specs.declared.refusal.ExpandRefusal.{ExpandRefusal}
 use Rattle.component_list.specs.declared.refusal.ExpandRefusal.TheVariants.{Read, TooLong, TooLarge, Rule, Memory}
 use Rattle.component_list.specs.declared.source.Directive.{Directive}
-use Rattle.component_list.specs.SourceViews.{Source}
+use Rattle.component_list.specs.Source.{Source}
 use Rattle.component_list.specs.Expansion.{◌>>=◌, Progress, added, begun, expanded_from, file_of, given_by, BeforeExpands, IsOfDirective, IsReached}
 
 -- a step behind two is one behind the second

@@ -4,7 +4,22 @@ use Rattle.std.specs.Prelude.{if◌then◌else◌, ◌==◌, ◌||◌, ◌&&◌,
 use Rattle.std.proofs.lemmas.List.{length-drop}
 use Rattle.std.proofs.lemmas.Bool.{eqb-true}
 use Rattle.igvm_headers.specs.Numbers.{number_at}
-use Rattle.igvm_headers.specs.Records.{header_form, of_length, platform_form, platform_fields, platform_kind_of, policy_form, area_form, page_form, page_fields, page_with, page_kind_of, least_set, is_set, insert_form, context_form, required_form, id_block_form, error_range_form, param_form, param_or_carried, param_kind_of, carried_form, is_carried}
+use Rattle.igvm_headers.specs.HeaderForm.{header_form, param_or_carried}
+use Rattle.igvm_headers.specs.Records.Fields.{of_length, is_set}
+use Rattle.igvm_headers.specs.Records.Platform.{platform_form, platform_with}
+use Rattle.igvm_headers.specs.PlatformKinds.{platform_kind_of}
+use Rattle.igvm_headers.specs.Records.Policy.{policy_form}
+use Rattle.igvm_headers.specs.Records.Area.{area_form}
+use Rattle.igvm_headers.specs.Records.Page.{page_form, page_unless, page_with, least_set}
+use Rattle.igvm_headers.specs.PageKinds.{page_kind_of}
+use Rattle.igvm_headers.specs.Records.Insert.{insert_form}
+use Rattle.igvm_headers.specs.Records.Context.{context_form}
+use Rattle.igvm_headers.specs.Records.Required.{required_form}
+use Rattle.igvm_headers.specs.Records.IdBlock.{id_block_form}
+use Rattle.igvm_headers.specs.Records.ErrorRange.{error_range_form}
+use Rattle.igvm_headers.specs.Records.Param.{param_form}
+use Rattle.igvm_headers.specs.ParamKinds.{param_kind_of}
+use Rattle.igvm_headers.specs.Records.Carried.{carried_form, is_carried}
 use Rattle.igvm_headers.specs.declared.platform_kind.PlatformKind.{PlatformKind}
 use Rattle.igvm_headers.specs.declared.page_kind.PageKind.{PageKind}
 use Rattle.igvm_headers.specs.declared.param_kind.ParamKind.{ParamKind}
@@ -12,13 +27,13 @@ use Rattle.igvm_headers.specs.declared.fault.HeaderFault.{HeaderFault}
 use Rattle.igvm_headers.specs.declared.fault.HeaderFault.TheVariants.{UnknownType, Length, DataType}
 use Rattle.igvm_headers.specs.declared.header.Header.{Header}
 use Rattle.igvm_headers.specs.declared.header.Header.TheVariants.{Page, Carried}
-use Rattle.component_list.specs.Components.{breaks_data_type, is_normal, is_unknown, tail_size}
-use Rattle.component_list.specs.Images.{tail_of}
+use Rattle.component_list.specs.Components.{breaks_data_type, is_normal, is_unknown}
+use Rattle.igvm_headers.specs.HeaderFacts.{tail_size, header_tail}
 
 -- a header that is read is known, its tail is of its size, and a 2 MB page is a normal one
 pub record IsRead (content : List ℕ) (h : Header) : Type 0 where
   pub known : is_unknown h ≡ false
-  pub tail : length (tail_of h content) ≡ tail_size h
+  pub tail : length (header_tail h content) ≡ tail_size h
   pub normal : breaks_data_type h ≡ false
 
 -- a result that is a header which was read, or a fault
@@ -42,7 +57,7 @@ sized_or content false h fault read = tt
 whole_tail : (content : List ℕ) → length content ≡ 696 → length (drop 104 content) ≡ 592
 whole_tail content size = simp length-drop (omega arith)
 
-platform_reads : (content : List ℕ) (found : Option PlatformKind) → ReadsOnly content (platform_fields content found)
+platform_reads : (content : List ℕ) (found : Option PlatformKind) → ReadsOnly content (platform_with content found)
 platform_reads content None = tt
 platform_reads content (Some kind) = record { known = refl; tail = refl; normal = refl }
 
@@ -73,7 +88,7 @@ page_reads content large (Some kind) same =
       normal = page_normal large (number_at 2 20 content == 0) (number_at 2 20 content) kind refl same e;
     }
 
-flags_read : (content : List ℕ) (bit : Option ℕ) → ReadsOnly content (page_fields content bit)
+flags_read : (content : List ℕ) (bit : Option ℕ) → ReadsOnly content (page_unless content bit)
 flags_read content (Some bit) = tt
 flags_read content None = page_reads content (is_set 0 (number_at 4 16 content)) (page_kind_of (number_at 2 20 content)) refl
 

@@ -7,10 +7,10 @@ use Rattle.igvm_headers.specs.declared.header.Header.{Header}
 use Rattle.igvm_headers.specs.declared.header.Header.TheVariants.{Area, Page, Context}
 use Rattle.platform_masks.specs.Platforms.{platform_of, platforms_from}
 use Rattle.igvm_image.specs.declared.area_table.AreaEntry.{AreaEntry}
-use Rattle.igvm_image.specs.Areas.{area_entry, areas_of}
-use Rattle.igvm_image.specs.Rules.{Seen, seen_of, class_of, pages_of, named_from, rule_fault, breaks_order, breaks_mask, breaks_align, breaks_area_limit, breaks_area_repeated, breaks_area_unknown, breaks_area_size, breaks_wrap, breaks_data, breaks_pages}
+use Rattle.igvm_image.specs.Areas.{area_entry, areas_of, placed_pages}
+use Rattle.igvm_image.specs.HeaderRules.{Seen, seen_of, named_from, rule_fault, breaks_order, breaks_mask, breaks_align, breaks_area_limit, breaks_area_repeated, breaks_area_unknown, breaks_area_size, breaks_wrap, breaks_data, breaks_pages}
+use Rattle.igvm_headers.specs.HeaderFacts.{class_of, with_offset}
 use Rattle.igvm_image.specs.RulesLaws.{keeps_rules, rule_fault-none}
-use Rattle.component_list.specs.Components.{with_offset}
 
 class_same : (at : ℕ) (h : Header) → class_of (with_offset at h) ≡ class_of h
 class_same at (Area bytes area offset) = refl
@@ -30,7 +30,7 @@ area_same at (Page gpa mask offset large unmeasured kind) = refl
 area_same at (Context gpa mask offset vp) = refl
 area_same at h = refl
 
-pages_same : (at : ℕ) (areas : List AreaEntry) (h : Header) → pages_of areas (with_offset at h) ≡ pages_of areas h
+pages_same : (at : ℕ) (areas : List AreaEntry) (h : Header) → placed_pages areas (with_offset at h) ≡ placed_pages areas h
 pages_same at areas (Area bytes area offset) = refl
 pages_same at areas (Page gpa mask offset large unmeasured kind) = refl
 pages_same at areas (Context gpa mask offset vp) = refl
@@ -61,7 +61,7 @@ named_same : (at : ℕ) (areas : List AreaEntry) (hs : List Header) → named_fr
 named_same at areas [] = refl
 named_same at areas (h ∷ hs) =
     ap₂ (λ n e. n + named_from (areas ++ option_to_list e) (map (with_offset at) hs)) (pages_same at areas h) (area_same at h)
-    ∙ ap (λ n. pages_of areas h + n) (named_same at (areas ++ option_to_list (area_entry h)) hs)
+    ∙ ap (λ n. placed_pages areas h + n) (named_same at (areas ++ option_to_list (area_entry h)) hs)
 
 -- what the rules ask of headers
 pub seen_same : (at : ℕ) (hs : List Header) → seen_of (map (with_offset at) hs) ≡ seen_of hs

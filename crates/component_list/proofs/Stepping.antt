@@ -6,13 +6,13 @@ use Rattle.std.proofs.lemmas.List.{take_more, take_all, length-map, take-append-
 use Rattle.std.proofs.lemmas.Option.{slice_get-get_or}
 use Rattle.std.proofs.lemmas.List.Folds.{list_any-append}
 use Rattle.igvm_headers.specs.declared.header.Header.{Header}
-use Rattle.igvm_headers.specs.Causes.{Rose}
+use Rattle.igvm_headers.specs.FaultCounts.{Rose}
 use Rattle.igvm_outside.specs.Files.{Files, State, NeverFalls, IsUnwritten}
 use Rattle.component_list.specs.declared.refusal.ExpandRefusal.{ExpandRefusal}
 use Rattle.component_list.specs.declared.refusal.ExpandRefusal.TheVariants.{Read, TooLong, TooLarge, Rule, Memory}
 use Rattle.component_list.specs.declared.refusal.ListPart.{ListPart}
 use Rattle.component_list.specs.declared.source.Directive.{Directive}
-use Rattle.component_list.specs.SourceViews.{Source}
+use Rattle.component_list.specs.Source.{Source}
 use Rattle.component_list.specs.Expansion.{◌>>=◌, Progress, added, begun, expanded_from, file_of, given_by, looked_at, names_file, plain_part, IsGivenRight, IsOfDirective, IsRule, ReadHasCause}
 use Rattle.component_list.proofs.Reached.{one_more}
 use Rattle.component_list.proofs.Added.{Keeps, IsAtStart, added_is, added_keeps, starts_append, offset_0}
@@ -27,6 +27,7 @@ pub record Expanding {S : Type 0} (told : S → Option Files) (state : S → Sta
   pub keeps : Keeps (length source.platforms + length source.policies + item) progress
   pub ends : length progress.ends ≡ item
   pub short : names_file (take item source.directives) ≡ true → given now ≤ 536870912
+  pub no_file : names_file (take item source.directives) ≡ false → given now ≡ given first
   pub same : (files : Files) → told first ≡ Some files
       → expanded_from files item (drop item source.directives) progress ≡ expanded_from files 0 source.directives (begun source)
   pub reached : (files : Files) → told first ≡ Some files
@@ -97,6 +98,35 @@ short_more ds item d before now taken was short same named' =
       | inr both ↦ subst (λ n. n ≤ 536870912) (sym (same both.0)) (was both.1)
     ]
 
+neither_names : (was now : Bool) → was || (now || false) ≡ false → (was ≡ false) × (now ≡ false)
+neither_names true now h = cc
+neither_names false true h = cc
+neither_names false false h = (refl, refl)
+
+-- the file of a directive is named by none of those that name no file
+unnamed : (ds : List Directive) (item : ℕ) (d : Directive) → take (item + 1) ds ≡ take item ds ++ d ∷ [] → names_file (take (item + 1) ds) ≡ false
+    → (names_file (take item ds) ≡ false) × (is_some (file_of d) ≡ false)
+unnamed ds item d taken none =
+    neither_names (names_file (take item ds)) (is_some (file_of d))
+    (sym (ap names_file taken ∙ list_any-append (λ (x : Directive). is_some (file_of x)) (take item ds) (d ∷ [])) ∙ none)
+
+-- where no file is named up to one more directive, what was given stays
+pub none_more : (ds : List Directive) (item : ℕ) (d : Directive) (first before now : ℕ) → take (item + 1) ds ≡ take item ds ++ d ∷ []
+    → (names_file (take item ds) ≡ false → before ≡ first) → (is_some (file_of d) ≡ false → now ≡ before) → names_file (take (item + 1) ds) ≡ false → now ≡ first
+none_more ds item d first before now taken was same none =
+    let each = unnamed ds item d taken none in
+    same each.1 ∙ was each.0
+
+or_false : (a b : Bool) → a || b ≡ false → a ≡ false
+or_false true b h = cc
+or_false false b h = refl
+
+-- where no directive names a file, none of the first ones does
+pub names_none : (ds : List Directive) (k : ℕ) → names_file ds ≡ false → names_file (take k ds) ≡ false
+names_none ds k h =
+    or_false (names_file (take k ds)) (names_file (drop k ds))
+    (sym (list_any-append (λ (x : Directive). is_some (file_of x)) (take k ds) (drop k ds)) ∙ ap names_file (take-append-drop k ds) ∙ h)
+
 or_true : (a b : Bool) → a ≡ true → a || b ≡ true
 or_true true b h = refl
 or_true false b h = cc
@@ -125,6 +155,7 @@ module _ {S : Type 0} (told : S → Option Files) (state : S → State) (given :
     keeps = begun_keeps source;
     ends = refl;
     short = λ h. cc;
+    no_file = λ h. refl;
     same = λ files is. refl;
     reached = λ files is. refl;
   })
@@ -145,6 +176,7 @@ module _ {S : Type 0} (told : S → Option Files) (state : S → State) (given :
     keeps = subst (λ n. Keeps n q) (omega arith) (added_keeps item (length source.platforms + length source.policies + item) d file p q w.keeps fine);
     ends = sym (ap (λ (r : Progress). length r.ends) (added_is item d file p q fine)) ∙ length-append p.ends _ ∙ ap (λ n. n + 1) w.ends;
     short = short_more source.directives item d (given before) (given now) taken w.short short same;
+    no_file = none_more source.directives item d (given first) (given before) (given now) taken w.no_file same;
     same = λ files is. sym (goes_on files item d (drop (item + 1) source.directives) p q file (good files (w.kept ∙ is)) fine)
         ∙ ap (λ ds. expanded_from files item ds p) (sym here) ∙ w.same files is;
     reached = λ files is. one_more files source.directives item d file (begun source) p q front taken (w.reached files is) (good files (w.kept ∙ is)) fine;

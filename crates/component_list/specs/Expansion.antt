@@ -3,8 +3,10 @@
 use Rattle.std.specs.Prelude.{◌≡◌, ◌<◌, ◌≤◌, true, is_some, take, option_and_then, slice_get, ℕ, suc, ◌+◌, ◌-◌, ◌*◌, ◌/◌, ◌^◌, List, [], ◌∷◌, ◌++◌, length, map, replicate, position, nat_lt, if◌then◌else◌, Bool, false, Option, Some, None, Result, Ok, Err, IsOk}
 use Rattle.std.specs.FinMap as finite
 use Rattle.std.specs.List.{range_with_len, list_any}
-use Rattle.igvm_headers.specs.Causes.{Rose}
+use Rattle.igvm_headers.specs.FaultCounts.{Rose}
 use Rattle.igvm_headers.specs.Numbers.{slice}
+use Rattle.igvm_headers.specs.Pages.{page_bytes, small_pages}
+use Rattle.igvm_headers.specs.HeaderFacts.{with_offset}
 use Rattle.igvm_headers.specs.declared.header.Header.{Header}
 use Rattle.igvm_headers.specs.declared.header.Header.TheVariants as header
 use Rattle.igvm_headers.specs.declared.fault.ReadWhat.{ReadWhat}
@@ -21,9 +23,8 @@ use Rattle.component_list.specs.declared.refusal.ExpandRefusal.TheVariants.{Read
 use Rattle.component_list.specs.declared.source.Directive.{Directive}
 use Rattle.component_list.specs.declared.source.Directive.TheVariants.{Pages, Zeros, Area, Context, Plain}
 use Rattle.component_list.specs.declared.source.PageRun.{PageRun}
-use Rattle.component_list.specs.Components.{with_offset}
-use Rattle.component_list.specs.Lists.{list_fault}
-use Rattle.component_list.specs.SourceViews.{Source}
+use Rattle.component_list.specs.Lists.{ImageParts, list_fault}
+use Rattle.component_list.specs.Source.{Source}
 
 -- one step, and then the next
 infixl 10 ◌>>=◌
@@ -53,16 +54,9 @@ given_by files item (Some name) = file_bytes item (finite.get files name)
 
 -- ---- what a directive with its file adds
 
--- the bytes of one of the pages, and how many of 4 KB it is
-abbrev pub page_size : PageRun → ℕ
-page_size run = if run.large then 2097152 else 4096
-
-abbrev pub small_pages : PageRun → ℕ
-small_pages run = if run.large then 512 else 1
-
 -- the least number of pages that hold so many bytes
 abbrev pub pages_for : PageRun → ℕ → ℕ
-pages_for run size = (size + (page_size run - 1)) / page_size run
+pages_for run size = (size + (page_bytes run.large - 1)) / page_bytes run.large
 
 -- the bytes of a file, where there is one
 abbrev pub bytes_or_none : Option (List ℕ) → List ℕ
@@ -76,7 +70,7 @@ padded size bytes = bytes ++ replicate (size - length bytes) 0
 -- page k of a run, with its data
 unfoldable pub page_at : PageRun → ℕ → Content → Component
 page_at run k content = record {
-  header = header.Page (run.gpa + page_size run * k) run.mask 0 run.large run.unmeasured run.kind;
+  header = header.Page (run.gpa + page_bytes run.large * k) run.mask 0 run.large run.unmeasured run.kind;
   tail = [];
   content = content;
 }
@@ -102,7 +96,7 @@ one_part header' tail content = record { header = header'; tail = tail; content 
 
 abbrev pub parts_of : Directive → Option (List ℕ) → List Component
 parts_of (Pages run name) file =
-    page_parts run (piece_of (page_size run) (bytes_or_none file)) (pages_for run (length (bytes_or_none file)))
+    page_parts run (piece_of (page_bytes run.large) (bytes_or_none file)) (pages_for run (length (bytes_or_none file)))
 parts_of (Zeros run count) file = page_parts run all_zero count
 parts_of (Area area bytes name) file = one_part (header.Area bytes area 0) [] (filled bytes file)
 parts_of (Context gpa mask vp name) file = one_part (header.Context gpa mask 0 vp) [] (filled 4096 file)
@@ -120,7 +114,7 @@ breaks_size _ file = false
 
 -- so many pages from an address on pass the end of the address space
 abbrev pub passes_end : PageRun → ℕ → Bool
-passes_end run count = nat_lt (2 ^ 64) (run.gpa + page_size run * count)
+passes_end run count = nat_lt (2 ^ 64) (run.gpa + page_bytes run.large * count)
 
 abbrev pub breaks_end : Directive → Option (List ℕ) → Bool
 breaks_end (Pages run name) file = passes_end run (pages_for run (length (bytes_or_none file)))
@@ -129,8 +123,8 @@ breaks_end _ file = false
 
 -- how many pages of 4 KB it names
 abbrev pub pages_named : Directive → Option (List ℕ) → ℕ
-pages_named (Pages run name) file = small_pages run * pages_for run (length (bytes_or_none file))
-pages_named (Zeros run count) file = small_pages run * count
+pages_named (Pages run name) file = small_pages run.large * pages_for run (length (bytes_or_none file))
+pages_named (Zeros run count) file = small_pages run.large * count
 pages_named _ file = 0
 
 -- the bytes of its contents
@@ -139,7 +133,7 @@ size_if size None = 0
 size_if size (Some bytes) = size
 
 abbrev pub content_bytes : Directive → Option (List ℕ) → ℕ
-content_bytes (Pages run name) file = page_size run * pages_for run (length (bytes_or_none file))
+content_bytes (Pages run name) file = page_bytes run.large * pages_for run (length (bytes_or_none file))
 content_bytes (Area area bytes name) file = size_if bytes file
 content_bytes (Context gpa mask vp name) file = size_if 4096 file
 content_bytes _ file = 0
@@ -207,15 +201,15 @@ origin source ends place =
 abbrev pub rule_at : ListPart × ℕ → ReadWhat → ExpandRefusal
 rule_at entry what = Rule entry.0 entry.1 what
 
-abbrev pub unless_faulty : Source → Progress → Option ListFault → Result (List Component) ExpandRefusal
-unless_faulty source p None = Ok p.parts
+abbrev pub unless_faulty : Source → Progress → Option ListFault → Result ImageParts ExpandRefusal
+unless_faulty source p None = Ok (record { version = source.version; parts = p.parts })
 unless_faulty source p (Some fault) = Err (rule_at (origin source p.ends fault.place) fault.what)
 
-unfoldable pub judged : Source → Progress → Result (List Component) ExpandRefusal
+unfoldable pub judged : Source → Progress → Result ImageParts ExpandRefusal
 judged source p = unless_faulty source p (list_fault p.parts)
 
--- the components of a list
-unfoldable pub expand_of : Source → Files → Result (List Component) ExpandRefusal
+-- the list that the entries make, with their version
+unfoldable pub expand_of : Source → Files → Result ImageParts ExpandRefusal
 expand_of source files = expanded_from files 0 source.directives (begun source) >>= judged source
 
 -- ---- when a refusal comes

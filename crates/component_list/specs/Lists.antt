@@ -1,11 +1,12 @@
 -- Component lists: the first rule that one breaks, and where.
-use Rattle.std.specs.Prelude.{◌≡◌, ℕ, ◌<◌, ◌^◌, List, [], ◌∷◌, ◌++◌, length, ◌==◌, if◌then◌else◌, Option, Some, None}
+use Rattle.std.specs.Prelude.{◌≡◌, ℕ, ◌<◌, ◌^◌, List, [], ◌∷◌, ◌++◌, length, ◌==◌, if◌then◌else◌, true, Option, Some, None}
 use Rattle.std.specs.List.{AllByRecursion}
+use Rattle.igvm_headers.specs.Fixed.{is_version}
 use Rattle.igvm_headers.specs.declared.header.Header.{Header}
 use Rattle.igvm_headers.specs.declared.fault.ReadWhat.{ReadWhat}
 use Rattle.igvm_headers.specs.declared.fault.ReadWhat.TheVariants.{UnknownType, Length, DataType, NoPlatform}
 use Rattle.platform_masks.specs.Platforms.{platforms_of}
-use Rattle.igvm_image.specs.Rules.{Seen, seen_of, rule_fault}
+use Rattle.igvm_image.specs.HeaderRules.{Seen, seen_of, rule_fault}
 use Rattle.component_list.specs.declared.component.Component.{Component}
 use Rattle.component_list.specs.declared.list_fault.ListFault.{ListFault}
 use Rattle.component_list.specs.Components.{is_unknown, carried_kind, breaks_length, breaks_data_type}
@@ -20,6 +21,7 @@ component_fault seen c =
     if breaks_data_type c.header then Some DataType else
     rule_fault 0 seen c.header
 
+-- a rule that the component at a place breaks
 abbrev pub fault_in : ℕ → ReadWhat → ListFault
 fault_in place what = record { place = place; what = what }
 
@@ -42,12 +44,22 @@ fault_behind before (c ∷ cs) =
 abbrev pub list_fault : List Component → Option ListFault
 list_fault parts = fault_behind [] parts
 
+-- a list as contracts see it: the version of its format, and its components in order
+pub record ImageParts : Type 0 where
+  pub version : ℕ
+  pub parts : List Component
+
 -- the components of a list as its type has them
 pub record AreComponents (parts : List Component) : Type 0 where
   pub few : length parts < 2 ^ 32
   pub each : AllByRecursion IsComponent parts
 
--- a list that breaks no rule
+-- components that break no rule
 pub record IsValid (parts : List Component) : Type 0 where
   pub kept : list_fault parts ≡ None
   pub fits : AreComponents parts
+
+-- a list of a version that is known, whose components break no rule
+pub record IsList (list : ImageParts) : Type 0 where
+  pub known : is_version list.version ≡ true
+  pub valid : IsValid list.parts

@@ -3,12 +3,12 @@ ghost use Rattle.std.specs.Prelude.{◌≡◌, codes, IfOk, None};
 ghost use Rattle.serde_json.specs.View.{view};
 ghost use Rattle.json_forms.specs.Forms.{required, optional};
 ghost use Rattle.component_list.specs.TextForms.{file_name};
-ghost use Rattle.component_list.specs.Sources.{directive_by, directive_entry, entry_form, plain, plain_form, page_count, page_run, some_file, pages_keys, pages_entry, zero_keys, zero_entry, area_keys, area_entry, context_keys, context_entry, param_keys, param_fields, insert_keys, insert_fields, required_keys, required_fields, error_range_keys, error_range_fields};
+ghost use Rattle.component_list.specs.ListForms.{directive_by, directive_entry, entry_form, plain, plain_form, page_count, page_run, some_file, pages_keys, pages_entry, zero_keys, zero_entry, area_keys, area_entry, context_keys, context_entry, param_keys, param_fields, insert_keys, insert_fields, required_keys, required_fields, error_range_keys, error_range_fields};
 
 use crate::blob::Blob;
 use crate::fields::{address, page_kind, short, truth, word};
+use crate::header_entries::{error_range_fields, insert_fields, param_fields, required_fields};
 use crate::id_block;
-use crate::plain_entries::{error_range_fields, insert_fields, param_fields, required_fields};
 use crate::source::{Directive, FileName, PageRun};
 use igvm_headers::{Header, Memory};
 use json_forms::has_only;
@@ -16,7 +16,7 @@ use serde_json::Value;
 use std::alloc::Global;
 
 /// An entry of `directives`, or None where it has not the form of its word.
-#[tactic(auto, unfolding(crate::specs::Sources::directive_entry))]
+#[tactic(auto, unfolding(crate::specs::ListForms::directive_entry))]
 pub(crate) fn directive_entry(alloc: Global, json: &Value) -> Result<Option<Directive>, Memory>
     ensures { IfOk result (λ entry. entry ≡ directive_entry (view json.now)) }
 {
@@ -29,7 +29,7 @@ pub(crate) fn directive_entry(alloc: Global, json: &Value) -> Result<Option<Dire
     directive_by(alloc, word, json)
 }
 
-#[tactic(auto, unfolding(crate::specs::Sources::directive_by))]
+#[tactic(auto, unfolding(crate::specs::ListForms::directive_by))]
 fn directive_by(alloc: Global, word: &str, json: &Value) -> Result<Option<Directive>, Memory>
     ensures { IfOk result (λ entry. entry ≡ directive_by word.now (view json.now)) }
 {
@@ -63,7 +63,7 @@ fn directive_by(alloc: Global, word: &str, json: &Value) -> Result<Option<Direct
     Ok(None)
 }
 
-#[tactic(auto, unfolding(crate::specs::Sources::pages_entry))]
+#[tactic(auto, unfolding(crate::specs::ListForms::pages_entry))]
 fn pages(alloc: Global, json: &Value) -> Result<Option<Directive>, Memory>
     ensures { IfOk result (λ entry. entry ≡ entry_form pages_keys pages_entry (view json.now)) }
 {
@@ -82,7 +82,7 @@ fn pages(alloc: Global, json: &Value) -> Result<Option<Directive>, Memory>
     Ok(Some(Directive::Pages { run, file }))
 }
 
-#[tactic(auto, unfolding(crate::specs::Sources::zero_entry))]
+#[tactic(auto, unfolding(crate::specs::ListForms::zero_entry))]
 fn zeros(json: &Value) -> Option<Directive>
     ensures { result ≡ entry_form zero_keys zero_entry (view json.now) }
 {
@@ -109,7 +109,7 @@ fn count_at(json: &Value) -> Option<u32>
     }
 }
 
-#[tactic(auto, unfolding(crate::specs::Sources::page_run))]
+#[tactic(auto, unfolding(crate::specs::ListForms::page_run))]
 fn page_run(json: &Value) -> Option<PageRun>
     ensures { result ≡ page_run (view json.now) }
 {
@@ -127,7 +127,7 @@ fn page_run(json: &Value) -> Option<PageRun>
     })
 }
 
-#[tactic(auto, unfolding(crate::specs::Sources::area_entry))]
+#[tactic(auto, unfolding(crate::specs::ListForms::area_entry))]
 fn area(alloc: Global, json: &Value) -> Result<Option<Directive>, Memory>
     ensures { IfOk result (λ entry. entry ≡ entry_form area_keys area_entry (view json.now)) }
 {
@@ -146,7 +146,7 @@ fn area(alloc: Global, json: &Value) -> Result<Option<Directive>, Memory>
     Ok(Some(Directive::Area { area, bytes, file }))
 }
 
-#[tactic(auto, unfolding(crate::specs::Sources::context_entry))]
+#[tactic(auto, unfolding(crate::specs::ListForms::context_entry))]
 fn context(alloc: Global, json: &Value) -> Result<Option<Directive>, Memory>
     ensures { IfOk result (λ entry. entry
         ≡ entry_form context_keys context_entry (view json.now)) }
@@ -255,8 +255,6 @@ fn file_name(alloc: Global, json: &Value) -> Result<Option<FileName>, Memory>
     if text.is_empty() {
         return Ok(None);
     }
-    match String::from_str(alloc, text) {
-        Ok(name) => Ok(Some(FileName::of_string(name))),
-        Err(_) => Err(Memory),
-    }
+    let name = String::from_str(alloc, text)?;
+    Ok(Some(FileName::of_string(name)))
 }

@@ -1,6 +1,6 @@
 //! The components of a list, with the files that it names.
 ghost use Rattle.std.specs.Prelude.{◌≡◌, ◌≢◌, ◌≤◌, ◌<◌, ◌⊎◌, ℕ, List, [], ◌∷◌, true, false, length, take, is_some, option_map, Some, Ok, Err, IfSome, IfOk, IfErr, OnOk};
-ghost use Rattle.igvm_headers.specs.Causes.{Rose};
+ghost use Rattle.igvm_headers.specs.FaultCounts.{Rose};
 ghost use Rattle.igvm_outside.specs.Files.{NeverFalls, IsUnwritten};
 ghost use Rattle.component_list.specs.Lists.{IsValid};
 ghost use Rattle.component_list.specs.Expansion.{bytes_or_none, expand_of, file_of, given_by, names_file, FollowsFiles, IsReached, ReadHasCause, IsGivenRight};
@@ -38,6 +38,8 @@ pub fn expand<S: Shelf>(
         IsGivenRight source.now.directives (S.given shelf.new) e) }
     ensures short { OnOk result (names_file source.now.directives ≡ true
         → S.given shelf.new ≤ 536870912) }
+    ensures no_file { names_file source.now.directives ≡ false
+        → S.given shelf.new ≡ S.given shelf.old }
 
     // The files stay, no count falls, and nothing is left being written.
     ensures kept { S.told shelf.new ≡ S.told shelf.old }
@@ -85,8 +87,8 @@ fn read_file<S: Shelf>(
         → 536870912 < S.given shelf.new) }
     ensures short { OnOk result (is_some (file_of directive.now) ≡ true
         → S.given shelf.new ≤ 536870912) }
-    ensures same { OnOk result (is_some (file_of directive.now) ≡ false
-        → S.given shelf.new ≡ S.given shelf.old) }
+    ensures same { is_some (file_of directive.now) ≡ false
+        → S.given shelf.new ≡ S.given shelf.old }
     ensures kept { S.told shelf.new ≡ S.told shelf.old }
     ensures reads { NeverFalls (S.read_faults shelf.old) (S.read_faults shelf.new) }
     ensures writes { NeverFalls (S.write_faults shelf.old) (S.write_faults shelf.new) }

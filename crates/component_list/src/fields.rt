@@ -4,9 +4,8 @@ ghost use Rattle.serde_json.specs.View.{view};
 ghost use Rattle.serde_json.specs.Find.{as_bool};
 ghost use Rattle.igvm_headers.specs.declared.page_kind.PageKind.TheVariants.{Normal};
 ghost use Rattle.json_forms.specs.Forms.{address, byte, short, word, required, optional};
-ghost use Rattle.component_list.specs.Sources.{page_kind};
+ghost use Rattle.component_list.specs.ListForms.{page_kind};
 
-use crate::kinds;
 use igvm_headers::PageKind;
 use serde_json::Value;
 
@@ -87,6 +86,6 @@ pub(crate) fn page_kind(json: &Value, key: &str) -> Option<PageKind>
 {
     match json.get(key) {
         None => Some(PageKind::Normal),
-        Some(found) => kinds::page_kind(found),
+        Some(found) => PageKind::from_name(found.as_str()?),
     }
 }

@@ -4,7 +4,7 @@ ghost use Rattle.serde_json.specs.View.{view};
 ghost use Rattle.json_forms.specs.Forms.{required, optional};
 ghost use Rattle.hex.specs.Hex.{decode_sized};
 ghost use Rattle.component_list.specs.TextForms.{decoded, hex_bytes};
-ghost use Rattle.component_list.specs.Sources.{entry_form, id_block_keys, id_block_fields, id_block_entry, zeros};
+ghost use Rattle.component_list.specs.ListForms.{entry_form, id_block_keys, id_block_fields, id_block_entry, zeros};
 
 use crate::blob::Blob;
 use crate::fields::{byte_or_0, word, word_or_0};
@@ -32,7 +32,7 @@ const NAMES: [&str; 11] = [
     "keys",
 ];
 
-#[tactic(auto, unfolding(crate::specs::Sources::id_block_entry))]
+#[tactic(auto, unfolding(crate::specs::ListForms::id_block_entry))]
 pub(crate) fn id_block(alloc: Global, json: &Value) -> Result<Option<Directive>, Memory>
     ensures { IfOk result (λ entry. entry
         ≡ entry_form id_block_keys id_block_entry (view json.now)) }
@@ -49,7 +49,7 @@ pub(crate) fn id_block(alloc: Global, json: &Value) -> Result<Option<Directive>,
     Ok(Some(Directive::Plain { header, tail }))
 }
 
-#[tactic(auto, unfolding(crate::specs::Sources::id_block_fields))]
+#[tactic(auto, unfolding(crate::specs::ListForms::id_block_fields))]
 fn id_block_fields(json: &Value) -> Option<Header>
     ensures { result ≡ id_block_fields (view json.now) }
 {
@@ -88,7 +88,7 @@ fn launch_digest(json: &Value) -> Option<Digest>
 }
 
 /// An id of 16 bytes, zeros where it is missing.
-#[tactic(auto, unfolding(crate::specs::Sources::zeros))]
+#[tactic(auto, unfolding(crate::specs::ListForms::zeros))]
 fn id_at(json: &Value, key: &str) -> Option<[u8; 16]>
     ensures { result ≡ optional (hex_bytes 16) (zeros 16) key.now (view json.now) }
 {
@@ -115,14 +115,12 @@ fn keys_at(alloc: Global, json: &Value) -> Result<Option<Blob>, Memory>
 }
 
 /// So many zeros.
-#[tactic(auto, unfolding(crate::specs::Sources::zeros))]
+#[tactic(auto, unfolding(crate::specs::ListForms::zeros))]
 fn zeros(alloc: Global, size: usize) -> Result<Blob, Memory>
     ensures { IfOk result (λ blob. blob ≡ zeros size) }
 {
-    match vec![in alloc; 0; size] {
-        Ok(bytes) => Ok(Blob::of_vec(bytes)),
-        Err(_) => Err(Memory),
-    }
+    let bytes = vec![in alloc; 0; size]?;
+    Ok(Blob::of_vec(bytes))
 }
 
 /// Exactly so many bytes, of two hexadecimal digits each.
@@ -138,9 +136,7 @@ fn hex_bytes(alloc: Global, json: &Value, size: usize) -> Result<Option<Blob>, M
 fn decoded(alloc: Global, text: &str, size: usize) -> Result<Option<Blob>, Memory>
     ensures { IfOk result (λ bytes. bytes ≡ decoded (decode_sized text.now size)) }
 {
-    let Ok(mut bytes) = vec![in alloc; 0; size] else {
-        return Err(Memory);
-    };
+    let mut bytes = vec![in alloc; 0; size]?;
     match hex::decode_to_slice(text, bytes.as_mut_slice()) {
         Ok(()) => Ok(Some(Blob::of_vec(bytes))),
         Err(_) => Ok(None),

@@ -3,27 +3,25 @@
 
 mod blob;
 mod component;
+mod directive_sizes;
 mod directives;
+mod entry_of_component;
 mod expanding;
+mod field_ranges;
 mod fields;
+mod header_entries;
 mod id_block;
 mod image_list;
-mod judging;
-mod kinds;
 mod laws;
 mod list;
 mod list_fault;
-mod measures;
-mod offsets;
-mod origin;
+mod list_rules;
+mod page_run;
 mod pages;
 mod parts;
-mod plain_entries;
 mod progress;
-mod ranges;
 mod reading;
 mod refusal;
-mod runs;
 mod slices;
 mod source;
 #[cfg(test)]
@@ -33,7 +31,10 @@ pub use blob::Blob;
 pub use component::{Component, Content};
 pub use expanding::expand;
 pub use image_list::components_of;
-pub use laws::{data_are_a_slice, equality_is_exact, image_lists_are_valid, offsets_do_not_count};
+pub use laws::{
+    data_are_a_slice, equality_is_exact, expansion_in_words, first_fault_of_a_list,
+    image_lists_are_valid, offsets_do_not_count,
+};
 pub use list::ComponentList;
 pub use list_fault::ListFault;
 pub use reading::read_list;

@@ -2,14 +2,15 @@
 ghost use Rattle.std.specs.Prelude.{◌≡◌, ◌+◌, ◌*◌, ◌≤◌, ◌<◌, ◌^◌, ◌++◌, length, false, OnOk, IfOk};
 ghost use Rattle.std.specs.Rc.{rc_slice_items};
 ghost use Rattle.igvm_headers.specs.Numbers.{slice};
-ghost use Rattle.component_list.specs.Expansion.{page_size, pages_for, padded, page_at, page_parts, piece_of, all_zero, passes_end};
+ghost use Rattle.igvm_headers.specs.Pages.{page_bytes};
+ghost use Rattle.component_list.specs.Expansion.{pages_for, padded, page_at, page_parts, piece_of, all_zero, passes_end};
 
 use crate::blob::Blob;
 use crate::component::{Component, Content};
-use crate::runs::{page_size, pages_for, place_of};
+use crate::page_run::{pages_for, place_of};
 use crate::slices::{behind, front};
 use crate::source::PageRun;
-use igvm_headers::{Header, Memory};
+use igvm_headers::{Header, Memory, page_bytes};
 use std::alloc::Global;
 use std::rc::RcSlice;
 
@@ -17,7 +18,7 @@ use std::rc::RcSlice;
 #[tactic(auto, unfolding(crate::specs::Expansion::page_at))]
 fn page_at(alloc: Global, run: &PageRun, k: u64, content: Content) -> Component
     requires few { k ≤ 4294967296 }
-    requires room { run.now.gpa + page_size run.now * k < 2 ^ 64 }
+    requires room { run.now.gpa + page_bytes run.now.large * k < 2 ^ 64 }
     ensures { result ≡ page_at run.now k content }
 {
     Component {
@@ -47,9 +48,7 @@ pub(crate) fn push_zeros(
 {
     'pages: for k in 0..count {
         let part = page_at(alloc, run, u64::from(k), Content::Zero);
-        if parts.push(part).is_err() {
-            return Err(Memory);
-        }
+        parts.push(part)?;
     }
     Ok(())
 }
@@ -65,19 +64,15 @@ pub(crate) fn push_pieces(
     requires short { length bytes.items ≤ 536870912 }
     requires end { passes_end run.now (pages_for run.now (length bytes.items)) ≡ false }
     ensures { OnOk result (parts.new.items ≡ parts.old.items
-        ++ page_parts run.now (piece_of (page_size run.now) bytes.items)
+        ++ page_parts run.now (piece_of (page_bytes run.now.large) bytes.items)
         (pages_for run.now (length bytes.items))) }
 {
     let count = pages_for(run, bytes.len());
-    let Ok(file) = RcSlice::from_vec(bytes) else {
-        return Err(Memory);
-    };
+    let file = RcSlice::from_vec(bytes)?;
     'pages: for k in 0..count {
         let content = piece_of(alloc, run, &file, k)?;
         let part = page_at(alloc, run, k, content);
-        if parts.push(part).is_err() {
-            return Err(Memory);
-        }
+        parts.push(part)?;
     }
     Ok(())
 }
@@ -87,9 +82,9 @@ pub(crate) fn push_pieces(
 fn piece_of(alloc: Global, run: &PageRun, file: &RcSlice<u8>, k: u64) -> Result<Content, Memory>
     requires { k ≤ 4294967296 }
     ensures { IfOk result (λ content. content
-        ≡ piece_of (page_size run.now) (rc_slice_items file.now) k) }
+        ≡ piece_of (page_bytes run.now.large) (rc_slice_items file.now) k) }
 {
-    let size = page_size(run) as usize;
+    let size = page_bytes(run.large) as usize;
     let at = place_of(run, k) as usize;
     let piece = front(behind(file.as_slice(), at), size);
     let blob = if piece.len() < size {
@@ -106,10 +101,7 @@ fn lent_piece(file: &RcSlice<u8>, at: usize, size: usize) -> Result<Blob, Memory
     requires { length (slice (rc_slice_items file.now) at size) ≡ size }
     ensures { IfOk result (λ blob. blob ≡ padded size (slice (rc_slice_items file.now) at size)) }
 {
-    match file.clone() {
-        Ok(file) => Ok(Blob::of_piece(file, at, size)),
-        Err(_) => Err(Memory),
-    }
+    Ok(Blob::of_piece(file.clone()?, at, size))
 }
 
 /// A copy of these bytes, followed by zeros up to a size.
@@ -117,12 +109,8 @@ fn padded_copy(alloc: Global, bytes: &[u8], size: usize) -> Result<Blob, Memory>
     requires { length bytes.now ≤ size }
     ensures { IfOk result (λ blob. blob ≡ padded size bytes.now) }
 {
-    let Ok(mut copy) = Vec::with_capacity(alloc, size) else {
-        return Err(Memory);
-    };
-    if copy.extend_from_slice(bytes).is_err() {
-        return Err(Memory);
-    }
+    let mut copy = Vec::with_capacity(alloc, size)?;
+    copy.extend_from_slice(bytes)?;
     padded(copy, size)
 }
 
@@ -132,8 +120,6 @@ pub(crate) fn padded(mut bytes: Vec<u8>, size: usize) -> Result<Blob, Memory>
     requires { length bytes.items ≤ size }
     ensures { IfOk result (λ blob. blob ≡ padded size bytes.items) }
 {
-    if bytes.resize(size, 0).is_err() {
-        return Err(Memory);
-    }
+    bytes.resize(size, 0)?;
     Ok(Blob::of_vec(bytes))
 }

@@ -4,11 +4,9 @@ ghost use Rattle.component_list.specs.Expansion.{breaks_end, breaks_size, bytes_
 
 use crate::blob::Blob;
 use crate::component::{Component, Content};
-use crate::measures::CONTEXT;
-use crate::offsets::without_offset;
 use crate::pages::{padded, push_pieces, push_zeros};
 use crate::source::Directive;
-use igvm_headers::{Header, Memory};
+use igvm_headers::{Header, Memory, PAGE_SIZE};
 use std::alloc::Global;
 
 /// Headers without data, behind the parts.
@@ -21,7 +19,7 @@ pub(crate) fn push_headers(
 {
     'headers: for header in headers {
         let tail = Blob::of_vec(Vec::new(alloc));
-        push_part(parts, without_offset(*header), tail, Content::Nothing)?;
+        push_part(parts, header.with_offset(0), tail, Content::Nothing)?;
     }
     Ok(())
 }
@@ -46,7 +44,7 @@ pub(crate) fn push_parts(
         Directive::Pages { run, .. } => push_pieces(alloc, parts, run, or_empty(alloc, file)),
         Directive::Zeros { run, count } => push_zeros(alloc, parts, run, *count),
         Directive::Area { area, bytes, .. } => {
-            let content = filled(*bytes, file)?;
+            let content = filled(u64::from(*bytes), file)?;
             let header = Header::Area {
                 bytes: u64::from(*bytes),
                 area: *area,
@@ -55,7 +53,7 @@ pub(crate) fn push_parts(
             push_part(parts, header, Blob::of_vec(Vec::new(alloc)), content)
         }
         Directive::Context { gpa, mask, vp, .. } => {
-            let content = filled(CONTEXT, file)?;
+            let content = filled(PAGE_SIZE, file)?;
             let header = Header::Context {
                 gpa: *gpa,
                 mask: *mask,
@@ -66,7 +64,7 @@ pub(crate) fn push_parts(
         }
         Directive::Plain { header, tail } => {
             let tail = copied(alloc, tail)?;
-            push_part(parts, without_offset(*header), tail, Content::Nothing)
+            push_part(parts, header.with_offset(0), tail, Content::Nothing)
         }
     }
 }
@@ -80,14 +78,12 @@ fn push_part(
     ensures { OnOk result (parts.new.items ≡ parts.old.items
         ++ record { header = header; tail = tail; content = content } ∷ []) }
 {
-    match parts.push(Component {
+    parts.push(Component {
         header,
         tail,
         content,
-    }) {
-        Ok(()) => Ok(()),
-        Err(_) => Err(Memory),
-    }
+    })?;
+    Ok(())
 }
 
 /// The same bytes once more.
@@ -95,9 +91,7 @@ fn copied(alloc: Global, blob: &Blob) -> Result<Blob, Memory>
     ensures { IfOk result (λ copy. copy ≡ blob.now) }
 {
     let mut bytes = Vec::new(alloc);
-    if bytes.extend_from_slice(blob.bytes()).is_err() {
-        return Err(Memory);
-    }
+    bytes.extend_from_slice(blob.bytes())?;
     Ok(Blob::of_vec(bytes))
 }
 
@@ -112,7 +106,7 @@ fn or_empty(alloc: Global, file: Option<Vec<u8>>) -> Vec<u8>
 }
 
 /// Data of a size: zeros, or a file's bytes, which are not copied.
-fn filled(size: u32, file: Option<Vec<u8>>) -> Result<Content, Memory>
+fn filled(size: u64, file: Option<Vec<u8>>) -> Result<Content, Memory>
     requires { is_longer size (option_map (λ v. v.items) file) ≡ false }
     ensures { IfOk result (λ content. content ≡ filled size (option_map (λ v. v.items) file)) }
 {

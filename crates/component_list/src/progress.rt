@@ -1,13 +1,13 @@
 //! The components of a list as far as its directives are expanded.
 ghost use Rattle.std.specs.Prelude.{◌≡◌, ◌≢◌, ◌≤◌, ◌<◌, ◌^◌, length, Ok, Err, option_map, OnOk, IfOk, IfErr};
 ghost use Rattle.std.specs.List.{AllByRecursion};
-ghost use Rattle.component_list.specs.Components.{offset_of};
+ghost use Rattle.igvm_headers.specs.HeaderFacts.{data_offset};
 ghost use Rattle.component_list.specs.Expansion.{added, begun, bytes_or_none, judged, IsOfDirective, IsRule};
 
 use crate::component::Component;
+use crate::directive_sizes::{breaks_end, breaks_size, content_bytes, lent, pages_named};
+use crate::entry_of_component::origin;
 use crate::list::ComponentList;
-use crate::measures::{breaks_end, breaks_size, content_bytes, lent, pages_named};
-use crate::origin::origin;
 use crate::parts::{push_headers, push_parts};
 use crate::refusal::{ExpandRefusal, ListPart};
 use crate::source::{Directive, ListSource};
@@ -64,7 +64,7 @@ impl Progress {
     #[tactic(auto, unfolding(crate::specs::Expansion::judged))]
     pub(crate) fn finish(self, source: &ListSource) -> Result<ComponentList, ExpandRefusal>
         requires few { length self.parts < 2 ^ 32 }
-        requires starts { AllByRecursion (λ c. offset_of c.header ≡ 0) self.parts }
+        requires starts { AllByRecursion (λ c. data_offset c.header ≡ 0) self.parts }
         requires ends { length self.ends ≤ 16777216 }
         ensures list { IfOk result (λ list. judged source.now self ≡ Ok list) }
         ensures refused { IfErr result (λ e. judged source.now self ≡ Err e) }
@@ -72,7 +72,7 @@ impl Progress {
     {
         let Progress { parts, ends, .. } = self;
         match ComponentList::from_parts(parts) {
-            Ok(list) => Ok(list),
+            Ok(list) => Ok(list.with_version(source.version())),
             Err(fault) => {
                 let entry = origin(source, ends.as_slice(), fault.place);
                 Err(ExpandRefusal::Rule {

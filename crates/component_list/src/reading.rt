@@ -1,13 +1,14 @@
 //! Component lists: JSON (RFC 8259) of the form that docs/LIST.md gives.
-ghost use Rattle.std.specs.Prelude.{◌≡◌, ◌≢◌, ◌≤◌, length, option_map, None, Some, Ok, Err, IfOk, IfErr, IfSome};
+ghost use Rattle.std.specs.Prelude.{◌≡◌, ◌≢◌, ◌≤◌, true, codes, length, option_map, None, Some, Ok, Err, IfOk, IfErr, IfSome};
+ghost use Rattle.igvm_headers.specs.Fixed.{is_version};
 ghost use Rattle.serde_json.specs.Data.{no_items};
 ghost use Rattle.serde_json.specs.View.{view, items_view};
 ghost use Rattle.json_forms.specs.Forms.{required, optional};
-ghost use Rattle.component_list.specs.Sources.{arrays_of, directive_entry, entries, entries_of, platform_entry, policy_entry, source_from, source_of};
-ghost use Rattle.component_list.specs.Walks.{arrays_view};
+ghost use Rattle.component_list.specs.ListForms.{directive_entry, entries, entries_of, fields_of, format_version, platform_entry, policy_entry, source_from, source_of};
+ghost use Rattle.component_list.specs.EntryArrays.{fields_view};
 
 use crate::directives::directive_entry;
-use crate::plain_entries::{platform_entry, policy_entry};
+use crate::header_entries::{platform_entry, policy_entry};
 use crate::refusal::{ListPart, ListRefusal};
 use crate::source::{Directive, ListSource};
 use igvm_headers::Header;
@@ -18,16 +19,17 @@ use std::alloc::Global;
 /// The most entries of a list.
 const MOST_ENTRIES: usize = 16_777_216;
 
-/// The arrays of a list.
+/// The fields of the whole: the version, and the arrays.
 #[derive(Clone, Copy)]
-pub(crate) struct Arrays<'a> {
+pub(crate) struct ListFields<'a> {
+    pub version: u32,
     pub platforms: &'a [Value],
     pub policies: &'a [Value],
     pub directives: &'a [Value],
 }
 
 /// What a component list says, or its first refusal.
-#[tactic(auto, unfolding(crate::specs::Sources::source_of))]
+#[tactic(auto, unfolding(crate::specs::ListForms::source_of))]
 pub fn read_list(alloc: Global, bytes: &[u8]) -> Result<ListSource, ListRefusal>
     requires { length bytes.now ≤ 16777216 }
     ensures source { IfOk result (λ source. source_of bytes.now ≡ Ok source) }
@@ -41,39 +43,66 @@ pub fn read_list(alloc: Global, bytes: &[u8]) -> Result<ListSource, ListRefusal>
 }
 
 /// What a JSON value says as a component list.
-#[tactic(auto, unfolding(crate::specs::Sources::source_from))]
+#[tactic(auto, unfolding(crate::specs::ListForms::source_from))]
 fn source_from(alloc: Global, json: &Value) -> Result<ListSource, ListRefusal>
     ensures source { IfOk result (λ source. source_from (view json.now) ≡ Ok source) }
     ensures refused { IfErr result (λ e. e ≢ ListRefusal.Memory
         → source_from (view json.now) ≡ Err e) }
 {
-    let Some(arrays) = arrays_of(json) else {
+    let Some(fields) = fields_of(json) else {
         return Err(refused(ListPart::Top, 0));
     };
-    let platforms = platforms(alloc, arrays.platforms)?;
-    let policies = policies(alloc, arrays.policies)?;
-    let directives = directives(alloc, arrays.directives)?;
-    Ok(ListSource::of_entries(platforms, policies, directives))
+    let platforms = platforms(alloc, fields.platforms)?;
+    let policies = policies(alloc, fields.policies)?;
+    let directives = directives(alloc, fields.directives)?;
+    Ok(ListSource::of_entries(fields.version, platforms, policies, directives))
 }
 
-/// The arrays of an object that has no other keys; `policies` may be missing.
-#[tactic(auto, unfolding(crate::specs::Sources::arrays_of))]
-fn arrays_of(json: &Value) -> Option<Arrays<'_>>
-    ensures arrays { option_map arrays_view result ≡ arrays_of (view json.now) }
+/// The fields of an object that has no other keys; `version` and `policies` may be missing.
+#[tactic(auto, unfolding(crate::specs::ListForms::fields_of))]
+fn fields_of(json: &Value) -> Option<ListFields<'_>>
+    ensures fields { option_map fields_view result ≡ fields_of (view json.now) }
+    ensures known { IfSome result (λ f. is_version f.version ≡ true) }
     ensures few { IfSome result (λ a. (length a.platforms.now ≤ 16777216)
         × (length a.policies.now ≤ 16777216) × (length a.directives.now ≤ 16777216)) }
 {
-    if !has_only(json, &["platforms", "policies", "directives"]) {
+    if !has_only(json, &["version", "platforms", "policies", "directives"]) {
         return None;
     }
+    let version = version_at(json)?;
     let platforms = array_at(json, "platforms")?;
     let policies = array_or_none(json, "policies")?;
     let directives = array_at(json, "directives")?;
-    Some(Arrays {
+    Some(ListFields {
+        version,
         platforms,
         policies,
         directives,
     })
+}
+
+/// The version of the format, and 1 where it is missing.
+fn version_at(json: &Value) -> Option<u32>
+    ensures version { result ≡ optional format_version 1 (codes "version") (view json.now) }
+    ensures known { IfSome result (λ version. is_version version ≡ true) }
+{
+    match json.get("version") {
+        None => Some(1),
+        Some(found) => format_version(found),
+    }
+}
+
+/// A version of the format, 1 or 2.
+fn format_version(json: &Value) -> Option<u32>
+    ensures version { result ≡ format_version (view json.now) }
+    ensures known { IfSome result (λ version. is_version version ≡ true) }
+{
+    let number = json_forms::word(json)?;
+    if number == 1 || number == 2 {
+        Some(number)
+    } else {
+        None
+    }
 }
 
 fn array_at<'a>(json: &'a Value, key: &str) -> Option<&'a [Value]>
@@ -123,9 +152,7 @@ fn platforms(alloc: Global, items: &[Value]) -> Result<Vec<Header>, ListRefusal>
         let Some(header) = platform_entry(json) else {
             return Err(refused(ListPart::Platforms, number as u32));
         };
-        if headers.push(header).is_err() {
-            return Err(ListRefusal::Memory);
-        }
+        headers.push(header)?;
     }
     Ok(headers)
 }
@@ -144,9 +171,7 @@ fn policies(alloc: Global, items: &[Value]) -> Result<Vec<Header>, ListRefusal>
         let Some(header) = policy_entry(json) else {
             return Err(refused(ListPart::Policies, number as u32));
         };
-        if headers.push(header).is_err() {
-            return Err(ListRefusal::Memory);
-        }
+        headers.push(header)?;
     }
     Ok(headers)
 }
@@ -162,15 +187,10 @@ fn directives(alloc: Global, items: &[Value]) -> Result<Vec<Directive>, ListRefu
 {
     let mut entries = Vec::new(alloc);
     'entries: for (number, json) in items.iter().enumerate() {
-        let Ok(found) = directive_entry(alloc, json) else {
-            return Err(ListRefusal::Memory);
-        };
-        let Some(entry) = found else {
+        let Some(entry) = directive_entry(alloc, json)? else {
             return Err(refused(ListPart::Directives, number as u32));
         };
-        if entries.push(entry).is_err() {
-            return Err(ListRefusal::Memory);
-        }
+        entries.push(entry)?;
     }
     Ok(entries)
 }

@@ -1,6 +1,9 @@
 //! Why a component list is not read, or not expanded.
+ghost use Rattle.std.specs.Prelude.{◌≡◌};
+ghost use Rattle.component_list.specs.declared.refusal.ListRefusal.TheVariants as list;
 
-use igvm_headers::ReadWhat;
+use igvm_headers::{Memory, ReadWhat};
+use std::alloc::AllocFailed;
 
 /// A part of a component list's JSON.
 #[derive(Clone, Copy, Debug, PartialEq, Eq)]
@@ -20,6 +23,22 @@ pub enum ListRefusal {
     Field { part: ListPart, item: u32 },
     /// Memory ran out.
     Memory,
+}
+
+impl From<Memory> for ListRefusal {
+    ghost from_gives = { λ _ refusal. refusal ≡ list.Memory };
+
+    fn from(_e: Memory) -> ListRefusal {
+        ListRefusal::Memory
+    }
+}
+
+impl<T: Drop> From<AllocFailed<T>> for ListRefusal {
+    ghost from_gives = { λ _ refusal. refusal ≡ list.Memory };
+
+    fn from(_e: AllocFailed<T>) -> ListRefusal {
+        ListRefusal::Memory
+    }
 }
 
 /// Why a component list is not expanded. An item is the place of an entry in its part.

@@ -1,6 +1,7 @@
 //! What the JSON of a component list says, before its files are read.
-ghost use Rattle.std.specs.Prelude.{◌≡◌, ◌≤◌, length, string_bytes};
-ghost use Rattle.component_list.specs.SourceViews.{HasFew};
+ghost use Rattle.std.specs.Prelude.{◌≡◌, ◌≤◌, true, length, string_bytes};
+ghost use Rattle.igvm_headers.specs.Fixed.{is_version};
+ghost use Rattle.component_list.specs.Source.{HasFew};
 
 use crate::blob::Blob;
 use igvm_headers::{Header, PageKind};
@@ -79,16 +80,17 @@ pub enum Directive {
     },
 }
 
-/// What a component list says: contracts see its three lists of entries in order.
+/// What a component list says: contracts see its version, and its three lists of entries in order.
 #[derive(Drop)]
 pub struct ListSource {
+    version: u32,
     platforms: Vec<Header>,
     policies: Vec<Header>,
     directives: Vec<Directive>,
 }
 
 impl Model for ListSource {
-    ghost use Rattle.component_list.specs.SourceViews.{Source, source_view, IsSource};
+    ghost use Rattle.component_list.specs.Source.{Source, source_view, IsSource};
 
     ghost Value = { Source };
 
@@ -98,22 +100,34 @@ impl Model for ListSource {
 }
 
 impl ListSource {
-    /// These entries.
+    /// These entries, for a version of the format.
     pub(crate) fn of_entries(
+        version: u32,
         platforms: Vec<Header>,
         policies: Vec<Header>,
         directives: Vec<Directive>,
     ) -> ListSource
-        requires { HasFew platforms.items policies.items directives.items }
+        requires known { is_version version ≡ true }
+        requires few { HasFew platforms.items policies.items directives.items }
+        ensures version { result.version ≡ version }
         ensures platforms { result.platforms ≡ platforms.items }
         ensures policies { result.policies ≡ policies.items }
         ensures directives { result.directives ≡ directives.items }
     {
         ListSource {
+            version,
             platforms,
             policies,
             directives,
         }
+    }
+
+    /// The version of the format, 1 or 2.
+    pub fn version(&self) -> u32
+        ensures value { result ≡ self.now.version }
+        ensures known { is_version result ≡ true }
+    {
+        self.version
     }
 
     /// The platforms, as their headers.

@@ -43,7 +43,7 @@ fn texts_that_are_no_list(rt: HostRuntime) -> Result<(), Fail> {
             top,
         ),
         ("{\"platforms\":[],\"directives\":[],\"Policies\":[]}", top),
-        ("{\"platforms\":[],\"directives\":[],\"version\":1}", top),
+        ("{\"platforms\":[],\"directives\":[],\"Version\":1}", top),
         ("{\"platforms\":[],\"directives\":[]}", None),
         ("{\"platforms\":[],\"policies\":[],\"directives\":[]}", None),
         // The later of two values at one key stands.
@@ -51,6 +51,54 @@ fn texts_that_are_no_list(rt: HostRuntime) -> Result<(), Fail> {
         ("{\"platforms\":[],\"directives\":[],\"platforms\":7}", top),
     ] {
         assert_eq!(rt; read(rt.alloc(), [text, "", ""])?, want, "{text}");
+    }
+    Ok(())
+}
+
+/// Reads a list of one platform whose version is written so.
+fn with_version(alloc: Global, version: &str) -> Result<Result<ListSource, ListRefusal>, Fail> {
+    let mut text = String::new(alloc);
+    text.push_str("{\"platforms\":[{\"kind\":\"snp\",\"mask\":1}],")?;
+    text.push_str(version)?;
+    text.push_str("\"directives\":[]}")?;
+    let bytes = text.as_str().as_bytes();
+    if bytes.len() > 16_777_216 {
+        return Err("too long".into());
+    }
+    Ok(read_list(alloc, bytes))
+}
+
+#[test]
+fn versions_of_a_list(rt: HostRuntime) -> Result<(), Fail> {
+    for (text, want) in [
+        ("", Some(1)),
+        ("\"version\":1,", Some(1)),
+        ("\"version\":2,", Some(2)),
+        ("\"version\":7,\"version\":2,", Some(2)),
+        ("\"version\":2,\"version\":7,", None),
+        ("\"version\":0,", None),
+        ("\"version\":3,", None),
+        ("\"version\":-0,", None),
+        ("\"version\":-1,", None),
+        ("\"version\":1.0,", None),
+        ("\"version\":2.0,", None),
+        ("\"version\":2e0,", None),
+        ("\"version\":4294967297,", None),
+        ("\"version\":\"2\",", None),
+        ("\"version\":null,", None),
+        ("\"version\":true,", None),
+    ] {
+        let part = ListPart::Top;
+        let refused = ListRefusal::Field { part, item: 0 };
+        match (with_version(rt.alloc(), text)?, want) {
+            (Ok(source), Some(version)) => {
+                let mut shelf = MemShelf::new(rt.alloc());
+                let list = expand(rt.alloc(), &source, &mut shelf)?;
+                assert_eq!(rt; source.version(), version, "{text}");
+                assert_eq!(rt; list.version(), version, "{text}");
+            }
+            (read, _) => assert_eq!(rt; read.err(), Some(refused), "{text}"),
+        }
     }
     Ok(())
 }
@@ -462,35 +510,66 @@ fn files_fill_pages_and_areas(rt: HostRuntime) -> Result<(), Fail> {
     let last = list.component(4).ok_or("no zeros")?;
     assert!(rt; matches!(last.content, Content::Zero));
     assert!(rt; list == expanded(rt.alloc(), pieces)??);
+    assert_eq!(rt; list.version(), 1);
+    assert!(rt; list != expanded(rt.alloc(), pieces)??.with_version(2));
+    let other = expanded(rt.alloc(), pieces)??.with_version(2);
+    let same = ComponentList::of_valid(list.into_parts()).with_version(2);
+    assert!(rt; other == same);
     Ok(())
 }
 
-/// SEV-SNP under mask 1, area 0 of 4,096 zeros, and area 1 of 8,192 bytes at file offset 96.
+/// SEV-SNP under mask 1, area 0 of 4,096 zeros, and area 1 of 8,192 bytes at file offset 96, which
+/// are what follows the section in version 1, and begin 8 bytes before its end in version 2.
 const SECTION: &[u8] = b"\x01\0\0\0\x10\0\0\0\x01\0\0\0\0\x02\x01\0\0\0\0\0\0\0\0\0\
     \x01\x03\0\0\x10\0\0\0\0\x10\0\0\0\0\0\0\0\0\0\0\0\0\0\0\
     \x01\x03\0\0\x10\0\0\0\0\x20\0\0\0\0\0\0\x01\0\0\0\x60\0\0\0";
 
-#[test]
-fn the_list_of_an_image(rt: HostRuntime) -> Result<(), Fail> {
-    let mut file = Vec::new(rt.alloc());
-    file.extend_from_slice(b"IGVM\x01\0\0\0\x18\0\0\0\x48\0\0\0\x60\x20\0\0")?;
+/// An image with that section and 8,192 bytes behind it: `fields` are those of the fixed header up
+/// to the checksum, `added` what version 2 has behind it.
+fn image(alloc: Global, fields: &[u8], added: &[u8]) -> Result<Vec<u8>, Fail> {
+    let mut file = Vec::new(alloc);
+    file.extend_from_slice(fields)?;
     let state = crc_more(crc_more(crc_begin(), &file), &[0; 4]);
-    file.extend_from_slice(&crc_end(crc_more(state, SECTION)).to_le_bytes())?;
+    let sum = crc_end(crc_more(crc_more(state, added), SECTION));
+    file.extend_from_slice(&sum.to_le_bytes())?;
+    file.extend_from_slice(added)?;
     file.extend_from_slice(SECTION)?;
     file.extend_from_slice(&[0x11; 8192])?;
-    assert!(rt; file.len() < 65536);
-    let view = open_image(&file).ok().ok_or("refused")?;
-    let list = components_of(rt.alloc(), &view).ok().ok_or("no memory")?;
-    assert_eq!(rt; list.len(), 3);
-    let area = Header::Area {
-        bytes: 8192,
-        area: 1,
-        offset: 0,
-    };
-    let last = list.component(2).ok_or("no area")?;
-    assert!(rt; last.header == area);
-    assert!(rt; bytes_at(&list, 2) == Some([0x11; 8192].as_slice()));
-    let first = list.component(1).ok_or("no area")?;
-    assert!(rt; matches!(first.content, Content::Zero));
+    Ok(file)
+}
+
+#[test]
+fn the_list_of_an_image(rt: HostRuntime) -> Result<(), Fail> {
+    for (version, fields, added) in [
+        (
+            1,
+            b"IGVM\x01\0\0\0\x18\0\0\0\x48\0\0\0\x60\x20\0\0",
+            b"".as_slice(),
+        ),
+        (
+            2,
+            b"IGVM\x02\0\0\0\x20\0\0\0\x48\0\0\0\x68\x20\0\0",
+            b"\0\0\0\0\0\x10\0\0".as_slice(),
+        ),
+    ] {
+        let file = image(rt.alloc(), fields, added)?;
+        assert!(rt; file.len() < 65536);
+        let view = open_image(&file).ok().ok_or("refused")?;
+        let list = components_of(rt.alloc(), &view).ok().ok_or("no memory")?;
+        assert_eq!(rt; list.version(), version);
+        assert_eq!(rt; list.len(), 3);
+        let area = Header::Area {
+            bytes: 8192,
+            area: 1,
+            offset: 0,
+        };
+        let last = list.component(2).ok_or("no area")?;
+        assert!(rt; last.header == area);
+        let bytes = bytes_at(&list, 2).ok_or("no bytes")?;
+        assert_eq!(rt; bytes.len(), 8192);
+        assert_eq!(rt; bytes.get(8183).copied(), Some(0x11));
+        let first = list.component(1).ok_or("no area")?;
+        assert!(rt; matches!(first.content, Content::Zero));
+    }
     Ok(())
 }

@@ -3,8 +3,8 @@ use Rattle.std.proofs.Common.{◌≡◌, ℕ, List, [], ◌∷◌, ◌++◌, ref
 use Rattle.std.specs.Prelude.{filter, if◌then◌else◌}
 use Rattle.std.specs.Cmp.Lexicographic.{bytes_decides, nat_list_eq_equiv}
 use Rattle.std.proofs.lemmas.List.Elements.{filter-append}
-use Rattle.image_builder.specs.Contents.{differs, distinct}
-use Rattle.image_builder.specs.Keeping.{is_kept, kept_with}
+use Rattle.image_builder.specs.DistinctContents.{differs, distinct}
+use Rattle.image_builder.specs.ContentIndex.{is_kept, kept_with}
 
 same : (xs ys : List ℕ) → bytes_eq xs ys ≡ true → xs ≡ ys
 same xs ys told = (bytes_decides xs ys).0 told

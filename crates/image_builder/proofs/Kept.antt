@@ -7,8 +7,8 @@ use Rattle.std.specs.Cmp.Lexicographic.{slice_cmp, bytes_decides, nat_list_eq_eq
 use Rattle.std.proofs.lemmas.Map.Text.{btree_map_updates_str}
 use Rattle.std.proofs.lemmas.List.Sums.{sum_by-cons, sum_by_push}
 use Rattle.std.proofs.lemmas.List.Folds.{list_any-append}
-use Rattle.image_builder.specs.Contents.{place_of}
-use Rattle.image_builder.specs.Keeping.{is_kept, kept_with, saturated, place_in, IsIndex}
+use Rattle.image_builder.specs.DistinctContents.{place_of}
+use Rattle.image_builder.specs.ContentIndex.{is_kept, kept_with, saturated, place_in, IsIndex}
 
 -- the test of two contents, where it has told
 same : (xs ys : List ℕ) → bytes_eq xs ys ≡ true → xs ≡ ys

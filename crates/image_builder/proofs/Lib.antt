@@ -17,3 +17,4 @@ pub mod ReadBackData
 pub mod ReadBackComponents
 pub mod ReadBackHeaders
 pub mod ReadBack
+pub mod FirstUses

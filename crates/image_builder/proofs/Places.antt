@@ -7,8 +7,8 @@ use Rattle.std.proofs.lemmas.Grind.{flat_map-append}
 use Rattle.component_list.specs.declared.component.Component.{Component}
 use Rattle.component_list.specs.declared.component.Content.{Content}
 use Rattle.component_list.specs.declared.component.Content.TheVariants.{Nothing, Zero, Bytes}
-use Rattle.image_builder.specs.Contents.{stored, contents, distinct}
-use Rattle.image_builder.specs.Keeping.{is_kept, kept_with, saturated}
+use Rattle.image_builder.specs.DistinctContents.{stored, contents, distinct}
+use Rattle.image_builder.specs.ContentIndex.{is_kept, kept_with, saturated}
 use Rattle.image_builder.specs.Layout.{offset_among, kept_contents}
 use Rattle.image_builder.specs.Plans.{offsets_in}
 use Rattle.image_builder.proofs.Distinct.{distinct-more}
@@ -18,7 +18,7 @@ pub record Placing (start : ℕ) (parts : List Component) (kept : List (List ℕ
   pub taken : kept ≡ fold kept_with [] (contents (take place parts))
   pub stay : (more : List (List ℕ)) → offsets ≡ offsets_in start (kept ++ more) (take place parts)
 
-contents-push : (parts : List Component) (c : Component) → contents (parts ++ c ∷ []) ≡ contents parts ++ stored c.content
+pub contents-push : (parts : List Component) (c : Component) → contents (parts ++ c ∷ []) ≡ contents parts ++ stored c.content
 unfolding contents
 contents-push parts c = flat_map-append (λ (c : Component). stored c.content) parts (c ∷ []) ∙ ap (λ ks. contents parts ++ ks) (append-nil (stored c.content))
 

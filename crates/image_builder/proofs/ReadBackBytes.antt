@@ -2,11 +2,24 @@
 use Rattle.std.proofs.Common.{ℕ, zero, suc, ◌^◌, ◌<◌, List, [], ◌∷◌, ◌++◌, length, replicate, arith, lit<}
 use Rattle.std.specs.Int.{byte_at, bytes_low_first}
 use Rattle.byteorder.specs.Endian.{little_bytes}
-use Rattle.igvm_headers.specs.Kinds.{kind_number}
-use Rattle.igvm_headers.specs.Spelling.{page_flags, data_type, header_type, header_fields, header_content, padding_size, reserved, spelled}
+use Rattle.igvm_headers.specs.PlatformKinds.{kind_number}
+use Rattle.igvm_headers.specs.Spelling.{header_fields, header_content, padding_size, spelled}
+use Rattle.igvm_headers.specs.PageKinds.{data_type}
+use Rattle.igvm_headers.specs.HeaderFacts.{header_type}
+use Rattle.igvm_headers.specs.Records.Fields.{reserved}
+use Rattle.igvm_headers.specs.Records.Platform.{platform_fields}
+use Rattle.igvm_headers.specs.Records.Policy.{policy_fields}
+use Rattle.igvm_headers.specs.Records.Area.{area_fields}
+use Rattle.igvm_headers.specs.Records.Page.{page_fields, page_flags}
+use Rattle.igvm_headers.specs.Records.Insert.{insert_fields}
+use Rattle.igvm_headers.specs.Records.Param.{param_fields}
+use Rattle.igvm_headers.specs.Records.Context.{context_fields}
+use Rattle.igvm_headers.specs.Records.Required.{required_fields}
+use Rattle.igvm_headers.specs.Records.ErrorRange.{error_range_fields}
+use Rattle.igvm_headers.specs.Records.IdBlock.{id_block_fields}
 use Rattle.igvm_headers.specs.declared.header.Header.{Header}
 use Rattle.igvm_headers.specs.declared.header.Header.TheVariants.{Platform, Policy, Area, Page, Insert, Param, Context, Required, ErrorRange, IdBlock, Carried}
-use Rattle.component_list.specs.Ranges.{AreBytes, FitsFields}
+use Rattle.component_list.specs.Ranges.{AreBytes, ListsAreBytes}
 
 pub joined : (xs ys : List ℕ) → AreBytes xs → AreBytes ys → AreBytes (xs ++ ys)
 joined [] ys all more = more
@@ -20,7 +33,7 @@ low_bytes : (i n x : ℕ) → AreBytes (bytes_low_first i n x)
 low_bytes i zero x = tt
 low_bytes i (suc n) x = (a_byte i x, low_bytes (suc i) n x)
 
-number_bytes : (n x : ℕ) → AreBytes (little_bytes n x)
+pub number_bytes : (n x : ℕ) → AreBytes (little_bytes n x)
 number_bytes n x = low_bytes 0 n x
 
 pub zero_bytes : (n : ℕ) → AreBytes (replicate n 0)
@@ -35,8 +48,9 @@ behind xs n x all = joined xs (little_bytes n x) all (number_bytes n x)
 zeros_behind : (xs : List ℕ) (n : ℕ) → AreBytes xs → AreBytes (xs ++ reserved n)
 zeros_behind xs n all = joined xs (reserved n) all (zero_bytes n)
 
-fields_bytes : (h : Header) → FitsFields h → AreBytes (header_fields h)
-unfolding header_fields
+-- a header's fields are bytes where its lists are
+fields_bytes : (h : Header) → ListsAreBytes h → AreBytes (header_fields h)
+unfolding header_fields platform_fields policy_fields area_fields page_fields insert_fields param_fields context_fields required_fields error_range_fields id_block_fields
 fields_bytes (Platform mask highest_vtl kind version shared_gpa) fits =
     behind (little_bytes 4 mask ++ little_bytes 1 highest_vtl ++ little_bytes 1 (kind_number kind) ++ little_bytes 2 version) 8 shared_gpa
     (behind (little_bytes 4 mask ++ little_bytes 1 highest_vtl ++ little_bytes 1 (kind_number kind)) 2 version
@@ -75,7 +89,6 @@ fields_bytes (ErrorRange gpa mask bytes) fits =
     behind (little_bytes 8 gpa ++ little_bytes 4 mask) 4 bytes
     (behind (little_bytes 8 gpa) 4 mask (number_bytes 8 gpa))
 fields_bytes (IdBlock mask author_enabled ld family_id image_id version guest_svn id_algorithm author_algorithm) fits =
-    let block = fits.1 in
     let head = little_bytes 4 mask ++ little_bytes 1 author_enabled ++ reserved 3 in
     let named = head ++ ld ++ family_id ++ image_id in
     behind (named ++ little_bytes 4 version ++ little_bytes 4 guest_svn ++ little_bytes 4 id_algorithm) 4 author_algorithm
@@ -87,10 +100,10 @@ fields_bytes (IdBlock mask author_enabled ld family_id image_id version guest_sv
     (joined head ld
     (zeros_behind (little_bytes 4 mask ++ little_bytes 1 author_enabled) 3
     (behind (little_bytes 4 mask) 1 author_enabled (number_bytes 4 mask)))
-    block.ld_bytes) block.family_bytes) block.image_bytes))))
+    fits.0) fits.1) fits.2))))
 fields_bytes (Carried kind length') fits = tt
 
-pub spelled_bytes : (h : Header) (tail : List ℕ) → FitsFields h → AreBytes tail → AreBytes (spelled h tail)
+pub spelled_bytes : (h : Header) (tail : List ℕ) → ListsAreBytes h → AreBytes tail → AreBytes (spelled h tail)
 unfolding spelled
 spelled_bytes h tail fits all =
     let front = little_bytes 4 (header_type h) ++ little_bytes 4 (length (header_content h tail)) in

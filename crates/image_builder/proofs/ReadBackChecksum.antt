@@ -6,12 +6,12 @@ use Rattle.std.proofs.lemmas.Nat.{xor_of_32}
 use Rattle.byteorder.specs.Endian.{little_bytes}
 use Rattle.igvm_headers.specs.Checksum.{shifted, shifted_times, crc_step, crc}
 use Rattle.component_list.specs.declared.component.Component.{Component}
-use Rattle.component_list.specs.declared.component.Content.{Content}
-use Rattle.component_list.specs.Components.{with_offset}
+use Rattle.igvm_headers.specs.Fixed.{fixed_size}
+use Rattle.igvm_headers.specs.HeaderFacts.{with_offset}
 use Rattle.component_list.specs.Ranges.{AreBytes, IsComponent}
-use Rattle.image_builder.specs.Layout.{offset_among, written, magic, fixed_front}
-use Rattle.image_builder.proofs.ReadBackBytes.{joined, behind, zero_bytes, spelled_bytes}
-use Rattle.image_builder.proofs.ReadBackOffsets.{fits_at}
+use Rattle.image_builder.specs.Layout.{offset_among, written, magic, fixed_front, fixed_rest}
+use Rattle.image_builder.proofs.ReadBackBytes.{joined, behind, number_bytes, zero_bytes, spelled_bytes}
+use Rattle.image_builder.proofs.ReadBackOffsets.{lists_at}
 
 shifted_fits : (state : ℕ) → state < 2 ^ 32 → shifted state < 2 ^ 32
 shifted_fits state fits =
@@ -34,28 +34,35 @@ state_fits (byte ∷ bytes) state fits all = state_fits bytes (crc_step state by
 crc_fits : (bytes : List ℕ) → AreBytes bytes → crc bytes < 2 ^ 32
 crc_fits bytes all = xor_of_32 (fold crc_step 0xFFFFFFFF bytes) 0xFFFFFFFF (state_fits bytes 0xFFFFFFFF (lit< tt) all) (lit< tt)
 
-front_bytes : (size total : ℕ) → AreBytes (fixed_front size total)
-front_bytes size total =
-    let named = magic ++ little_bytes 4 1 ++ little_bytes 4 24 in
+front_bytes : (version size total : ℕ) → AreBytes (fixed_front version size total)
+front_bytes version size total =
+    let named = magic ++ little_bytes 4 version ++ little_bytes 4 (fixed_size version) in
     behind (named ++ little_bytes 4 size) 4 total
     (behind named 4 size
-    (behind (magic ++ little_bytes 4 1) 4 24
-    (behind magic 4 1 (lit< tt, (lit< tt, (lit< tt, (lit< tt, tt)))))))
+    (behind (magic ++ little_bytes 4 version) 4 (fixed_size version)
+    (behind magic 4 version (lit< tt, (lit< tt, (lit< tt, (lit< tt, tt)))))))
 
-section_bytes : (start : ℕ) (kept : List (List ℕ)) (parts : List Component) → ((content : Content) → offset_among start kept content < 2 ^ 32)
-    → AllByRecursion IsComponent parts → AreBytes (flat_map (written start kept) parts)
-section_bytes start kept [] small all = tt
-section_bytes start kept (c ∷ cs) small all =
+rest_bytes : (version : ℕ) → AreBytes (fixed_rest version)
+rest_bytes version =
+    elim (version == 2) as (λ b. AreBytes (if b then little_bytes 4 0 ++ little_bytes 4 4096 else []))
+    [ true ↦ behind (little_bytes 4 0) 4 4096 (number_bytes 4 0) | false ↦ tt ]
+
+section_bytes : (start : ℕ) (kept : List (List ℕ)) (parts : List Component) → AllByRecursion IsComponent parts
+    → AreBytes (flat_map (written start kept) parts)
+section_bytes start kept [] all = tt
+section_bytes start kept (c ∷ cs) all =
     let at = offset_among start kept c.content in
     joined (written start kept c) (flat_map (written start kept) cs)
-    (spelled_bytes (with_offset at c.header) c.tail (fits_at at c.header (small c.content) all.0.fields) all.0.tail)
-    (section_bytes start kept cs small all.1)
+    (spelled_bytes (with_offset at c.header) c.tail (lists_at at c.header all.0.lists) all.0.tail)
+    (section_bytes start kept cs all.1)
 
 -- the checksum over both
-pub checksum_fits : (size total start : ℕ) (kept : List (List ℕ)) (parts : List Component) → ((content : Content) → offset_among start kept content < 2 ^ 32)
-    → AllByRecursion IsComponent parts → crc (fixed_front size total ++ replicate 4 0 ++ flat_map (written start kept) parts) < 2 ^ 32
-checksum_fits size total start kept parts small all =
-    let front = fixed_front size total ++ replicate 4 0 in
+pub checksum_fits : (version size total start : ℕ) (kept : List (List ℕ)) (parts : List Component) → AllByRecursion IsComponent parts
+    → crc (fixed_front version size total ++ replicate 4 0 ++ fixed_rest version ++ flat_map (written start kept) parts) < 2 ^ 32
+checksum_fits version size total start kept parts all =
+    let front = fixed_front version size total in
     let headers = flat_map (written start kept) parts in
-    crc_fits (front ++ headers)
-    (joined front headers (joined (fixed_front size total) (replicate 4 0) (front_bytes size total) (zero_bytes 4)) (section_bytes start kept parts small all))
+    let zeros = joined front (replicate 4 0) (front_bytes version size total) (zero_bytes 4) in
+    let fixed = joined (front ++ replicate 4 0) (fixed_rest version) zeros (rest_bytes version) in
+    crc_fits (front ++ replicate 4 0 ++ fixed_rest version ++ headers)
+    (joined (front ++ replicate 4 0 ++ fixed_rest version) headers fixed (section_bytes start kept parts all))

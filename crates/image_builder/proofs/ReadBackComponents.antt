@@ -2,21 +2,21 @@
 use Rattle.std.proofs.Common.{◌≡◌, ℕ, List, length, Bool, true, false, None}
 use Rattle.std.specs.Prelude.{◌==◌, ◌&&◌, not}
 use Rattle.std.proofs.lemmas.Bool.{and_parts, not-false}
-use Rattle.igvm_headers.specs.Spellable.{IsSpellable}
+use Rattle.igvm_headers.specs.SpellingConditions.{IsSpellable}
 use Rattle.igvm_headers.specs.declared.header.Header.{Header}
 use Rattle.igvm_headers.specs.declared.fault.ReadWhat.TheVariants.{UnknownType, Length, DataType, Order, Mask, Align, AreaLimit, AreaRepeated, AreaUnknown, AreaSize}
 use Rattle.igvm_image.specs.Data.{data_in}
-use Rattle.igvm_image.specs.Rules.{Seen, rule_fault, breaks_data, breaks_order, breaks_mask, breaks_align, breaks_area_limit, breaks_area_repeated, breaks_area_unknown, breaks_area_size}
+use Rattle.igvm_image.specs.HeaderRules.{Seen, rule_fault, breaks_data, breaks_order, breaks_mask, breaks_align, breaks_area_limit, breaks_area_repeated, breaks_area_unknown, breaks_area_size}
 use Rattle.component_list.specs.declared.component.Component.{Component}
-use Rattle.component_list.specs.Components.{with_offset, tail_size, is_unknown, carried_kind, fits_content, breaks_length, breaks_data_type}
+use Rattle.component_list.specs.Components.{is_unknown, carried_kind, fits_content, breaks_length, breaks_data_type}
+use Rattle.igvm_headers.specs.HeaderFacts.{with_offset, tail_size}
 use Rattle.component_list.specs.Ranges.{IsComponent}
 use Rattle.component_list.specs.Lists.{component_fault}
-use Rattle.component_list.specs.Images.{content_of}
+use Rattle.component_list.specs.ImageList.{content_of}
 use Rattle.image_builder.specs.Layout.{offset_among}
-use Rattle.image_builder.proofs.Writes.{writes, spellable}
+use Rattle.image_builder.proofs.Writes.{writes, spellable, skipped}
 use Rattle.image_builder.proofs.ReadBackContents.{IsAmong}
 use Rattle.image_builder.proofs.ReadBackPieces.{set_header}
-use Rattle.image_builder.proofs.Writes.{skipped}
 use Rattle.image_builder.proofs.ReadBackOffsets.{spellable_at, offset_gone}
 use Rattle.image_builder.proofs.ReadBackData.{HasContents, offset_fits, inside, content_back}
 
@@ -66,7 +66,7 @@ reads_back total start kept body seen c has law none is among =
     let judged = judged_component seen c none in
     let fits = offset_fits total start kept body c.content has among in
     record {
-      spells = spellable_at (offset_among start kept c.content) c.header c.tail fits (spellable c.header c.tail (writes seen c none) is.fields);
+      spells = spellable_at (offset_among start kept c.content) c.header c.tail fits (spellable c.header c.tail (writes seen c none) is.numbers);
       inside = inside total start kept body c.header c.content has law among judged.fits;
       header = offset_gone (offset_among start kept c.content) c.header is.offset;
       content = content_back total start kept body c.header c.content has among judged.fits judged.area;

@@ -9,8 +9,8 @@ use Rattle.std.proofs.lemmas.List.Folds.{list_any-append}
 use Rattle.component_list.specs.declared.component.Component.{Component}
 use Rattle.component_list.specs.declared.component.Content.{Content}
 use Rattle.component_list.specs.declared.component.Content.TheVariants.{Nothing, Zero, Bytes}
-use Rattle.image_builder.specs.Contents.{stored, contents, differs, distinct, place_of}
-use Rattle.image_builder.specs.Keeping.{is_kept}
+use Rattle.image_builder.specs.DistinctContents.{stored, contents, differs, distinct, place_of}
+use Rattle.image_builder.specs.ContentIndex.{is_kept}
 use Rattle.image_builder.specs.Layout.{kept_contents}
 use Rattle.image_builder.proofs.Distinct.{kept_among}
 use Rattle.image_builder.proofs.Kept.{place_within}
@@ -23,7 +23,7 @@ distinct_step bytes x kept others true told more =
     ap (λ c. c || is_kept bytes (filter (differs x) kept)) told ∙ sym (ap (λ c. c || is_kept bytes others) told)
 distinct_step bytes x kept others false told more = ap (λ c. bytes_eq bytes x || c) (kept_among bytes x kept told ∙ more)
 
-is_kept-distinct : (bytes : List ℕ) (xs : List (List ℕ)) → is_kept bytes (distinct xs) ≡ is_kept bytes xs
+pub is_kept-distinct : (bytes : List ℕ) (xs : List (List ℕ)) → is_kept bytes (distinct xs) ≡ is_kept bytes xs
 unfolding distinct
 is_kept-distinct bytes [] = refl
 is_kept-distinct bytes (x ∷ xs) = distinct_step bytes x (distinct xs) xs (bytes_eq bytes x) refl (is_kept-distinct bytes xs)

@@ -5,13 +5,15 @@ use Rattle.std.proofs.lemmas.Bool.{and_right, or_parts, le-ltb, eqb-true, cond-f
 use Rattle.igvm_headers.specs.declared.header.Header.{Header}
 use Rattle.igvm_headers.specs.declared.header.Header.TheVariants.{Area, Page, Context}
 use Rattle.igvm_image.specs.Data.{data_in}
-use Rattle.igvm_image.specs.Rules.{breaks_data, breaks_area_size}
+use Rattle.igvm_image.specs.HeaderRules.{breaks_data, breaks_area_size}
 use Rattle.component_list.specs.declared.component.Content.{Content}
 use Rattle.component_list.specs.declared.component.Content.TheVariants.{Nothing, Zero, Bytes}
-use Rattle.component_list.specs.Components.{with_offset, fits_content, is_nothing}
-use Rattle.component_list.specs.Images.{data_bytes, content_of}
-use Rattle.image_builder.specs.Contents.{place_of}
-use Rattle.image_builder.specs.Keeping.{is_kept}
+use Rattle.component_list.specs.Components.{fits_content, is_nothing}
+use Rattle.igvm_headers.specs.HeaderFacts.{with_offset}
+use Rattle.igvm_headers.specs.Pages.{page_bytes, small_pages}
+use Rattle.component_list.specs.ImageList.{data_bytes, content_of}
+use Rattle.image_builder.specs.DistinctContents.{place_of}
+use Rattle.image_builder.specs.ContentIndex.{is_kept}
 use Rattle.image_builder.specs.Layout.{offset_among}
 use Rattle.image_builder.proofs.ReadBackContents.{IsAmong}
 use Rattle.image_builder.proofs.ReadBackPages.{data_whole}
@@ -37,7 +39,7 @@ inside_bytes total at (Area size area offset) bytes fits within =
     let same = eqb-true (length bytes) size fits in
     and_right (not (at == 0)) (nat_lt total (at + size)) (le-ltb total (at + size) (omega arith))
 inside_bytes total at (Page gpa mask offset large unmeasured kind) bytes fits within =
-    let size = if large then 2097152 else 4096 in
+    let size = page_bytes large in
     let same = eqb-true (length bytes) size fits in
     and_right (not (at == 0)) (nat_lt total (at + size)) (le-ltb total (at + size) (omega arith))
 inside_bytes total at (Context gpa mask offset vp) bytes fits within = le-ltb total at (omega arith)
@@ -65,7 +67,7 @@ area_pages size area offset kept =
     let whole = eqb-true (size % 4096) 0 (not-false (size % 4096 == 0) second.1) in
     omega arith
 
-page_pages : (large : Bool) → (if large then 2097152 else 4096) ≡ 4096 * (if large then 512 else 1)
+page_pages : (large : Bool) → page_bytes large ≡ 4096 * small_pages large
 page_pages true = refl
 page_pages false = refl
 
@@ -91,7 +93,7 @@ content_back total start kept body (Area size area offset) (Bytes bytes) has amo
 content_back total start kept body (Page gpa mask offset large unmeasured kind) Nothing has among fits area' = absurd (cc)
 content_back total start kept body (Page gpa mask offset large unmeasured kind) Zero has among fits area' = refl
 content_back total start kept body (Page gpa mask offset large unmeasured kind) (Bytes bytes) has among fits area' =
-    kept_data total start kept body bytes (if large then 512 else 1) has among (eqb-true (length bytes) (if large then 2097152 else 4096) fits ∙ page_pages large)
+    kept_data total start kept body bytes (small_pages large) has among (eqb-true (length bytes) (page_bytes large) fits ∙ page_pages large)
 content_back total start kept body (Context gpa mask offset vp) Nothing has among fits area' = absurd (cc)
 content_back total start kept body (Context gpa mask offset vp) Zero has among fits area' = refl
 content_back total start kept body (Context gpa mask offset vp) (Bytes bytes) has among fits area' =

@@ -5,27 +5,27 @@ use Rattle.std.specs.List.{AllByRecursion}
 use Rattle.std.proofs.lemmas.Bool.{cond-false}
 use Rattle.std.proofs.lemmas.List.{map-append}
 use Rattle.igvm_headers.specs.Fixed.{fault_at}
-use Rattle.igvm_headers.specs.Records.{header_form}
-use Rattle.igvm_headers.specs.Spelling.{header_type, header_content, header_tail}
-use Rattle.igvm_headers.specs.Spellable.{IsSpellable}
+use Rattle.igvm_headers.specs.HeaderForm.{header_form}
+use Rattle.igvm_headers.specs.Spelling.{header_content}
+use Rattle.igvm_headers.specs.HeaderFacts.{header_type, header_tail, with_offset}
+use Rattle.igvm_headers.specs.SpellingConditions.{IsSpellable}
 use Rattle.igvm_headers.specs.declared.header.Header.{Header}
 use Rattle.igvm_headers.specs.declared.fault.ReadWhat.TheVariants.{NoPlatform}
 use Rattle.component_list.specs.Platforms.{platforms_of}
 use Rattle.igvm_image.specs.Data.{data_in}
 use Rattle.igvm_image.specs.Pieces.{size_of}
-use Rattle.igvm_image.specs.Rules.{Seen, seen_of, rule_fault, breaks_data}
-use Rattle.igvm_image.specs.Reading.{judged, judged_form, if_rules_hold, headers_fault, end_fault, unless_fault}
+use Rattle.igvm_image.specs.HeaderRules.{Seen, seen_of, rule_fault, breaks_data}
+use Rattle.igvm_image.specs.FileFault.{judged, judged_form, if_rules_hold, headers_fault, end_fault, unless_fault}
 use Rattle.igvm_image.specs.Headers.{placed_from, placed_before, placed_header}
 use Rattle.component_list.specs.declared.component.Component.{Component}
 use Rattle.component_list.specs.declared.component.Content.{Content}
-use Rattle.component_list.specs.Components.{with_offset}
-use Rattle.component_list.specs.Images.{tail_of, content_of, component_of}
+use Rattle.component_list.specs.ImageList.{content_of, component_of}
 use Rattle.component_list.specs.Lists.{component_fault, fault_behind, fault_in}
 use Rattle.component_list.specs.Ranges.{IsComponent}
 use Rattle.image_builder.proofs.ReadBackContents.{IsAmong}
 use Rattle.image_builder.proofs.ReadBackPieces.{set_header, set_piece}
 use Rattle.image_builder.proofs.Writes.{skipped, unbroken}
-use Rattle.image_builder.proofs.ReadBackOffsets.{with_offset-twice, tail_same}
+use Rattle.image_builder.proofs.ReadBackOffsets.{with_offset-twice}
 use Rattle.image_builder.proofs.ReadBackData.{HasContents}
 use Rattle.image_builder.proofs.ReadBackComponents.{ReadsBack, reads_back, judged_component}
 
@@ -119,8 +119,8 @@ component_back : SpelledIsRead → (total start : ℕ) (kept : List (List ℕ)) 
 component_back read total start kept body index at c back =
     let h = set_header start kept c in
     let raw = header_content h c.tail in
-    ap (λ g. component g (tail_of h raw) (content_of h (data_in body h))) back.header
-    ∙ ap (λ t. component c.header t (content_of h (data_in body h))) (tail_same h raw ∙ read.tail h c.tail back.spells)
+    ap (λ g. component g (header_tail h raw) (content_of h (data_in body h))) back.header
+    ∙ ap (λ t. component c.header t (content_of h (data_in body h))) (read.tail h c.tail back.spells)
     ∙ ap (component c.header c.tail) back.content
 
 pub list_back : SpelledIsRead → (total start : ℕ) (kept : List (List ℕ)) (body : List ℕ) (index at : ℕ) (parts : List Component)

@@ -6,7 +6,7 @@ use Rattle.std.proofs.lemmas.Bool.{cond-false}
 use Rattle.std.proofs.lemmas.List.{take-append-drop, take-take, drop-take, drop-drop, length-drop, length-take-le}
 use Rattle.igvm_headers.specs.Numbers.{slice}
 use Rattle.igvm_headers.specs.Pages.{padded_page, body_page}
-use Rattle.component_list.specs.Images.{data_bytes}
+use Rattle.component_list.specs.ImageList.{data_bytes}
 
 take_parts : (a b : ℕ) (xs : List ℕ) → take (a + b) xs ≡ take a xs ++ take b (drop a xs)
 take_parts a b xs =

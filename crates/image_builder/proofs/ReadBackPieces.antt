@@ -2,13 +2,13 @@
 use Rattle.std.proofs.Common.{◌≡◌, ℕ, ◌+◌, ◌*◌, ◌/◌, List, [], ◌∷◌, ◌++◌, length, map, drop, refl, sym, arith, subst, length-append, inl}
 use Rattle.std.specs.List.{AllByRecursion, flat_map}
 use Rattle.igvm_headers.specs.Numbers.{number_at, slice}
-use Rattle.igvm_headers.specs.Spelling.{header_type, header_content, spelled}
-use Rattle.igvm_headers.specs.Spellable.{IsSpellable}
+use Rattle.igvm_headers.specs.Spelling.{header_content, spelled}
+use Rattle.igvm_headers.specs.HeaderFacts.{header_type, with_offset}
+use Rattle.igvm_headers.specs.SpellingConditions.{IsSpellable}
 use Rattle.igvm_headers.specs.declared.header.Header.{Header}
 use Rattle.igvm_image.specs.Pieces.{Piece}
-use Rattle.igvm_image.specs.Split.{Split, Begins}
+use Rattle.igvm_image.specs.SectionSplit.{Split, Begins}
 use Rattle.component_list.specs.declared.component.Component.{Component}
-use Rattle.component_list.specs.Components.{with_offset}
 use Rattle.image_builder.specs.Layout.{offset_among, written}
 
 -- a section that begins with what is spelled begins with that header

@@ -2,19 +2,20 @@
 use Rattle.std.proofs.Common.{◌≡◌, ℕ, List, [], ◌∷◌, ◌++◌, length, refl, Bool, true, false, not, ◌&&◌, Option, Some, None, IsTrue, arith, rules}
 use Rattle.std.specs.Prelude.{if◌then◌else◌, ◌==◌}
 use Rattle.std.specs.List.{AllByRecursion}
-use Rattle.igvm_headers.specs.Records.{is_carried}
-use Rattle.igvm_headers.specs.Spellable.{IsSpellable}
+use Rattle.igvm_headers.specs.Records.Carried.{is_carried}
+use Rattle.igvm_headers.specs.SpellingConditions.{IsSpellable, NumbersFit}
 use Rattle.igvm_headers.specs.declared.page_kind.PageKind.{PageKind}
 use Rattle.igvm_headers.specs.declared.page_kind.PageKind.TheVariants as page
 use Rattle.igvm_headers.specs.declared.header.Header.{Header}
 use Rattle.igvm_headers.specs.declared.header.Header.TheVariants.{Platform, Policy, Area, Page, Insert, Param, Context, Required, ErrorRange, IdBlock, Carried}
 use Rattle.igvm_headers.specs.declared.fault.ReadWhat.{ReadWhat}
 use Rattle.igvm_headers.specs.declared.fault.ReadWhat.TheVariants.{UnknownType, Length, DataType}
-use Rattle.igvm_image.specs.Rules.{Seen, seen_of}
+use Rattle.igvm_image.specs.HeaderRules.{Seen, seen_of}
 use Rattle.component_list.specs.declared.component.Component.{Component}
 use Rattle.component_list.specs.declared.list_fault.ListFault.{ListFault}
-use Rattle.component_list.specs.Components.{is_unknown, carried_kind, tail_size, fits_content, is_normal, breaks_length, breaks_data_type}
-use Rattle.component_list.specs.Ranges.{FitsFields, IsComponent}
+use Rattle.component_list.specs.Components.{is_unknown, carried_kind, fits_content, is_normal, breaks_length, breaks_data_type}
+use Rattle.igvm_headers.specs.HeaderFacts.{tail_size}
+use Rattle.component_list.specs.Ranges.{IsComponent}
 use Rattle.component_list.specs.Lists.{component_fault, fault_behind, unless_broken}
 
 -- what a component keeps of the rules on it alone
@@ -55,7 +56,7 @@ carried true kept = search rules
 carried false kept = absurd (cc)
 
 -- such a header is spelled as it is read, with numbers of its types
-pub spellable : (header : Header) (tail : List ℕ) → Writes header tail → FitsFields header → IsSpellable header tail
+pub spellable : (header : Header) (tail : List ℕ) → Writes header tail → NumbersFit header → IsSpellable header tail
 spellable (Platform mask highest_vtl kind version shared_gpa) tail w fits = record { numbers = fits; tail_fits = w.sized; large_is_normal = tt; kind_is_carried = tt }
 spellable (Policy policy mask) tail w fits = record { numbers = fits; tail_fits = w.sized; large_is_normal = tt; kind_is_carried = tt }
 spellable (Area bytes area offset) tail w fits = record { numbers = fits; tail_fits = w.sized; large_is_normal = tt; kind_is_carried = tt }
@@ -67,13 +68,7 @@ spellable (Context gpa mask offset vp) tail w fits = record { numbers = fits; ta
 spellable (Required gpa mask bytes flags) tail w fits = record { numbers = fits; tail_fits = w.sized; large_is_normal = tt; kind_is_carried = tt }
 spellable (ErrorRange gpa mask bytes) tail w fits = record { numbers = fits; tail_fits = w.sized; large_is_normal = tt; kind_is_carried = tt }
 spellable (IdBlock mask author_enabled ld family_id image_id version guest_svn id_algorithm author_algorithm) tail w fits =
-    let block = fits.1 in
-    record {
-      numbers = (fits.0, block.author, block.ld_size, block.family_size, block.image_size, fits.2, fits.3, fits.4, fits.5);
-      tail_fits = w.sized;
-      large_is_normal = tt;
-      kind_is_carried = tt;
-    }
+    record { numbers = fits; tail_fits = w.sized; large_is_normal = tt; kind_is_carried = tt }
 spellable (Carried kind length') tail w fits =
     record { numbers = fits; tail_fits = w.sized; large_is_normal = tt; kind_is_carried = carried (is_carried kind) w.known }
 
@@ -89,6 +84,6 @@ unfolding fault_behind
 spellable_behind before [] none fits = tt
 spellable_behind before (c ∷ cs) none fits =
     let first = unbroken (length before) (component_fault (seen_of before) c) (fault_behind (before ++ c.header ∷ []) cs) none in (
-      spellable c.header c.tail (writes (seen_of before) c first.0) fits.0.fields,
+      spellable c.header c.tail (writes (seen_of before) c first.0) fits.0.numbers,
       spellable_behind (before ++ c.header ∷ []) cs first.1 fits.1,
     )

@@ -1,10 +1,11 @@
-pub mod Contents
+pub mod DistinctContents
+pub mod FirstUse
 pub mod Layout
-pub mod Keeping
+pub mod ContentIndex
 pub mod Refusals
 pub mod Plans
-pub mod InPieces
-pub use Rattle.igvm_outside.specs.Pieces
+pub mod ImagePieces
+pub use Rattle.igvm_outside.specs.JoinedBytes
 pub use Rattle.igvm_image.specs.Headers
 pub use Rattle.component_list.specs.Lists
-pub use Rattle.component_list.specs.Images
+pub use Rattle.component_list.specs.ImageList

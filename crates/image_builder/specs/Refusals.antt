@@ -2,7 +2,7 @@
 use Rattle.std.specs.Prelude.{◌≡◌, ℕ, ◌<◌, ⊤}
 use Rattle.image_builder.specs.declared.refusal.BuildRefusal.{BuildRefusal}
 use Rattle.image_builder.specs.declared.refusal.BuildRefusal.TheVariants.{TooLarge, Memory}
-use Rattle.image_builder.specs.Keeping.{saturated}
+use Rattle.image_builder.specs.ContentIndex.{saturated}
 
 -- a refusal for size comes where a file of this size is past the limit, and names the size
 abbrev pub IsTooLarge : ℕ → BuildRefusal → Type 0

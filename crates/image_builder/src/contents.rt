@@ -1,8 +1,8 @@
 //! The contents of a list, each kept once, with the place where it will stand in the file.
 ghost use Rattle.std.specs.Prelude.{◌≡◌, ◌+◌, List, ℕ, [], ◌++◌, length, sum_by, IfOk, OnOk, None};
-ghost use Rattle.image_builder.specs.Contents.{place_of};
-ghost use Rattle.igvm_outside.specs.Pieces.{lent};
-ghost use Rattle.image_builder.specs.Keeping.{kept_with, place_in, saturated};
+ghost use Rattle.image_builder.specs.DistinctContents.{place_of};
+ghost use Rattle.igvm_outside.specs.JoinedBytes.{lent};
+ghost use Rattle.image_builder.specs.ContentIndex.{kept_with, place_in, saturated};
 
 use igvm_headers::Memory;
 use std::alloc::Global;
@@ -21,8 +21,8 @@ pub(crate) struct Contents<'a> {
 
 impl<'a> Model for Contents<'a> {
     ghost use Rattle.std.specs.Prelude.{◌≡◌, ◌+◌, length, sum_by};
-    ghost use Rattle.igvm_outside.specs.Pieces.{lent};
-    ghost use Rattle.image_builder.specs.Keeping.{Row, IsIndex, saturated};
+    ghost use Rattle.igvm_outside.specs.JoinedBytes.{lent};
+    ghost use Rattle.image_builder.specs.ContentIndex.{Row, IsIndex, saturated};
 
     ghost Value = { Row };
 

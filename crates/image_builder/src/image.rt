@@ -1,13 +1,13 @@
 //! An image in pieces: docs/FORMAT.md says in words what the builder writes.
 ghost use Rattle.std.specs.Prelude.{◌≡◌, ◌≤◌, length, IfOk, IfErr, OnOk};
 ghost use Rattle.std.specs.List.{AllByRecursion};
-ghost use Rattle.igvm_headers.specs.Spellable.{IsSpellable};
-ghost use Rattle.igvm_outside.specs.Pieces.{lent, joined};
+ghost use Rattle.igvm_headers.specs.SpellingConditions.{IsSpellable};
+ghost use Rattle.igvm_outside.specs.JoinedBytes.{lent, joined};
 ghost use Rattle.igvm_image.specs.Headers.{IsAccepted};
-ghost use Rattle.component_list.specs.Images.{list_of};
-ghost use Rattle.image_builder.specs.InPieces.{front_of};
+ghost use Rattle.component_list.specs.ImageList.{list_of};
+ghost use Rattle.image_builder.specs.ImagePieces.{front_of};
 ghost use Rattle.image_builder.specs.Layout.{layout, layout_size};
-ghost use Rattle.image_builder.specs.Plans.{IsPlan};
+ghost use Rattle.image_builder.specs.Plans.{IsPlan, in_version};
 ghost use Rattle.image_builder.specs.Refusals.{IsTooLarge};
 
 use crate::laws::layout_has_its_size;
@@ -35,8 +35,8 @@ pub struct Image<'a> {
 
 impl<'a> Model for Image<'a> {
     ghost use Rattle.std.specs.Prelude.{ℕ, List};
-    ghost use Rattle.igvm_outside.specs.Pieces.{lent, joined};
-    ghost use Rattle.image_builder.specs.InPieces.{IsInPieces};
+    ghost use Rattle.igvm_outside.specs.JoinedBytes.{lent, joined};
+    ghost use Rattle.image_builder.specs.ImagePieces.{IsInPieces};
 
     ghost Value = { List ℕ };
 
@@ -55,11 +55,13 @@ impl<'a> Image<'a> {
         ensures within { OnOk result (length (layout list.now) ≤ 536870912) }
         ensures too_large { IfErr result (IsTooLarge (length (layout list.now))) }
     {
+        let version = list.version();
         let parts = list.components();
+        // Laws: nothing runs.
         note_spellable(parts);
         layout_has_its_size();
         built_is_read_back();
-        let Ok(plan) = Plan::of(alloc, parts) else {
+        let Ok(plan) = Plan::of(alloc, version, parts) else {
             return Err(BuildRefusal::Memory);
         };
         let bytes = plan.contents.end();
@@ -75,10 +77,13 @@ impl<'a> Image<'a> {
     /// The image of these components, as it is planned.
     fn planned(alloc: Global, parts: &[Component], plan: Plan<'a>) -> Result<Image<'a>, Memory>
         requires each { AllByRecursion (λ c. IsSpellable c.header c.tail) parts.now }
-        requires planned { IsPlan plan.section plan.offsets.items plan.contents parts.now }
-        requires within { layout_size parts.now ≤ 536870912 }
-        ensures { IfOk result (λ image. image ≡ layout parts.now) }
+        requires planned { IsPlan plan.section plan.offsets.items plan.contents
+            (in_version plan.version parts.now) }
+        requires within { layout_size (in_version plan.version parts.now) ≤ 536870912 }
+        ensures { IfOk result (λ image. image
+            ≡ layout (in_version plan.entry.version parts.now)) }
     {
+        // A law: nothing runs.
         layout_has_its_size();
         let front = write_front(alloc, parts, &plan)?;
         let bytes = plan.contents.end();

@@ -1,11 +1,11 @@
 //! Images of component lists: the bytes that a builder writes.
 #![tactic(auto)]
 
-mod building;
 mod contents;
+mod fixed_header;
 mod image;
+mod joined_image;
 mod laws;
-mod placing;
 mod plan;
 mod read_back;
 mod refusal;
@@ -15,8 +15,8 @@ mod spellable;
 mod tests;
 mod writing;
 
-pub use building::build;
 pub use image::Image;
-pub use laws::layout_has_its_size;
+pub use joined_image::build;
+pub use laws::{each_content_stands_once, layout_has_its_size};
 pub use read_back::built_is_read_back;
 pub use refusal::BuildRefusal;

@@ -1,42 +1,47 @@
 //! Where everything stands in the image of a list, and how large it is.
 ghost use Rattle.std.specs.Prelude.{◌≡◌, List, ℕ, [], ◌++◌, IfOk, OnOk};
 ghost use Rattle.std.specs.List.{AllByRecursion, fold};
-ghost use Rattle.igvm_headers.specs.Spellable.{IsSpellable};
-ghost use Rattle.image_builder.specs.Contents.{stored};
-ghost use Rattle.image_builder.specs.Keeping.{kept_with, saturated};
+ghost use Rattle.igvm_headers.specs.SpellingConditions.{IsSpellable};
+ghost use Rattle.image_builder.specs.DistinctContents.{stored};
+ghost use Rattle.image_builder.specs.ContentIndex.{kept_with, saturated};
 ghost use Rattle.image_builder.specs.Layout.{kept_contents, offset_among};
-ghost use Rattle.image_builder.specs.Plans.{IsPlan, offsets_in};
+ghost use Rattle.image_builder.specs.Plans.{IsPlan, in_version, offsets_in};
 
 use crate::contents::Contents;
+use crate::fixed_header::fixed_size;
 use crate::sizes::section_size;
 use component_list::{Component, Content};
 use igvm_headers::Memory;
 use std::alloc::Global;
 
-/// The bytes of the fixed header.
-const FIXED_SIZE: u64 = 24;
-
-/// The section's size, the file offset of each component's content, and the contents to write.
+/// The format's version, the section's size, the file offset of each component's content, and the contents to write.
 /// Numbers past 64 bits stop at the greatest.
 #[derive(Drop)]
 pub(crate) struct Plan<'a> {
+    pub(crate) version: u32,
     pub(crate) section: u64,
     pub(crate) offsets: Vec<u64>,
     pub(crate) contents: Contents<'a>,
 }
 
 impl<'a> Plan<'a> {
-    /// The plan of these components.
-    pub(crate) fn of(alloc: Global, parts: &'a [Component]) -> Result<Plan<'a>, Memory>
+    /// The plan of these components in a version of the format.
+    pub(crate) fn of(
+        alloc: Global,
+        version: u32,
+        parts: &'a [Component],
+    ) -> Result<Plan<'a>, Memory>
         requires { AllByRecursion (λ c. IsSpellable c.header c.tail) parts.now }
-        ensures { IfOk result (λ plan.
-            IsPlan plan.section plan.offsets.items plan.contents parts.now) }
+        ensures planned { IfOk result (λ plan. IsPlan plan.section plan.offsets.items plan.contents
+            (in_version plan.version parts.now)) }
+        ensures version { IfOk result (λ plan. plan.version ≡ version) }
     {
         let section = section_size(parts);
-        let start = section.saturating_add(FIXED_SIZE);
+        let start = section.saturating_add(u64::from(fixed_size(version)));
         let mut contents = Contents::new(alloc, start);
         let offsets = place_all(alloc, parts, &mut contents)?;
         Ok(Plan {
+            version,
             section,
             offsets,
             contents,
@@ -56,14 +61,10 @@ fn place_all<'a>(
     ensures offsets { IfOk result (λ offsets.
         offsets.items ≡ offsets_in row.old.start (kept_contents parts.now) parts.now) }
 {
-    let Ok(mut offsets) = Vec::with_capacity(alloc, parts.len()) else {
-        return Err(Memory);
-    };
+    let mut offsets = Vec::with_capacity(alloc, parts.len())?;
     'parts: for component in parts {
         let offset = place(&component.content, row)?;
-        let Ok(()) = offsets.push(offset) else {
-            return Err(Memory);
-        };
+        offsets.push(offset)?;
     }
     Ok(offsets)
 }

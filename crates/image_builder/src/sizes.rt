@@ -1,12 +1,12 @@
 //! How many bytes headers take in a section (`igvm_defs`, IGVM_VHS_VARIABLE_HEADER).
 ghost use Rattle.std.specs.Prelude.{◌≡◌, ◌<◌, ◌≤◌};
 ghost use Rattle.std.specs.List.{AllByRecursion};
-ghost use Rattle.igvm_headers.specs.Spellable.{IsSpellable, content_size};
-ghost use Rattle.image_builder.specs.Keeping.{saturated};
+ghost use Rattle.igvm_headers.specs.SpellingConditions.{IsSpellable};
+ghost use Rattle.image_builder.specs.ContentIndex.{saturated};
 ghost use Rattle.image_builder.specs.Layout.{spelled_size, section_size};
 
 use component_list::Component;
-use igvm_headers::{Header, spelled_is_a_piece, spelled_is_read};
+use igvm_headers::{spelled_is_a_piece, spelled_is_read};
 
 /// The bytes of all headers, or 2^64 - 1 where they are more.
 #[tactic(auto, unfolding(crate::specs::Layout::section_size))]
@@ -26,23 +26,9 @@ fn spelled_size(component: &Component) -> u64
     requires { IsSpellable component.now.header component.now.tail }
     ensures { result ≡ spelled_size component.now }
 {
+    // Laws: nothing runs.
     spelled_is_read();
     spelled_is_a_piece();
-    let size = 8 + u64::from(content_size(&component.header));
+    let size = 8 + u64::from(component.header.content_size());
     (size + 7) / 8 * 8
-}
-
-/// The bytes of a header's content.
-fn content_size(header: &Header) -> u32
-    ensures { result ≡ content_size header.now }
-{
-    match *header {
-        Header::Platform { .. } | Header::Policy { .. } | Header::Area { .. } => 16,
-        Header::Page { .. } | Header::Required { .. } => 24,
-        Header::Insert { .. } | Header::ErrorRange { .. } => 16,
-        Header::Param { .. } => 8,
-        Header::Context { .. } => 20,
-        Header::IdBlock { .. } => 696,
-        Header::Carried { length, .. } => length,
-    }
 }

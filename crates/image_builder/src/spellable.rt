@@ -1,7 +1,7 @@
 //! What the rules on a list say of each header that is written.
 ghost use Rattle.std.specs.List.{AllByRecursion};
 ghost use Rattle.component_list.specs.Lists.{IsValid};
-ghost use Rattle.igvm_headers.specs.Spellable.{IsSpellable};
+ghost use Rattle.igvm_headers.specs.SpellingConditions.{IsSpellable};
 
 use component_list::Component;
 

@@ -3,8 +3,9 @@
 
 use crate::{BuildRefusal, Image, build};
 use byteorder::{ByteOrder, LittleEndian};
-use component_list::{Blob, Content};
+use component_list::{Blob, Content, components_of};
 use igvm_headers::{Header, PageKind, ParamKind, PlatformKind, crc32};
+use igvm_image::open_image;
 use std::alloc::Global;
 use std::test::Fail;
 
@@ -27,6 +28,11 @@ fn sum_of(alloc: Global, parts: Parts) -> Result<(usize, u32), Fail> {
 fn builds_the_smallest(rt: HostRuntime) -> Result<(), Fail> {
     let image = build(rt.alloc(), &snp(rt.alloc())?.list()?)?;
     let want = b"IGVM\x01\0\0\0\x18\0\0\0\x18\0\0\0\x30\0\0\0\xe5\xd3\xab\x67\
+        \x01\0\0\0\x10\0\0\0\x01\0\0\0\0\x02\x01\0\0\0\0\0\0\0\0\0";
+    assert_eq!(rt; image.as_slice(), want.as_slice());
+    let image = build(rt.alloc(), &snp(rt.alloc())?.list()?.with_version(2))?;
+    let want = b"IGVM\x02\0\0\0\x20\0\0\0\x18\0\0\0\x38\0\0\0\x3f\x26\x3a\xfa\
+        \0\0\0\0\0\x10\0\0\
         \x01\0\0\0\x10\0\0\0\x01\0\0\0\0\x02\x01\0\0\0\0\0\0\0\0\0";
     assert_eq!(rt; image.as_slice(), want.as_slice());
     Ok(())
@@ -157,15 +163,26 @@ fn push_placed(alloc: Global, parts: &mut Parts) -> Result<(), Fail> {
 #[test]
 fn builds_a_realistic_list(rt: HostRuntime) -> Result<(), Fail> {
     let alloc = rt.alloc();
-    let list = realistic(alloc)?.list()?;
-    let pieces = Image::of(alloc, &list)?;
-    assert_eq!(rt; pieces.len(), 41_640);
-    assert_eq!(rt; pieces.front().len(), 680);
-    assert_eq!(rt; pieces.contents().len(), 10);
-    let image = build(alloc, &list)?;
-    assert_eq!(rt; number_at(image.as_slice(), 268), Some(680));
-    assert_eq!(rt; image.len(), 41_640);
-    assert_eq!(rt; crc32(image.as_slice()), 0x691B_D8C0);
+    for (version, offset_at, front, size, sum) in [
+        (1, 268, 680, 41_640, 0x691B_D8C0),
+        (2, 276, 688, 41_648, 0xB0C4_7B3C),
+    ] {
+        if version != 1 && version != 2 {
+            return Err(Fail::new("another version"));
+        }
+        let list = realistic(alloc)?.list()?.with_version(version);
+        let pieces = Image::of(alloc, &list)?;
+        assert_eq!(rt; pieces.len(), size);
+        assert_eq!(rt; pieces.front().len(), front);
+        assert_eq!(rt; pieces.contents().len(), 10);
+        let image = build(alloc, &list)?;
+        assert_eq!(rt; number_at(image.as_slice(), offset_at), Some(front as u32));
+        assert_eq!(rt; image.len() as u64, size);
+        assert_eq!(rt; crc32(image.as_slice()), sum);
+        let view = open_image(image.as_slice()).ok().ok_or("refused")?;
+        let read = components_of(alloc, &view).ok().ok_or("no memory")?;
+        assert!(rt; read == list);
+    }
     Ok(())
 }
 

@@ -5,12 +5,12 @@ ghost use Rattle.std.specs.List.{AllByRecursion};
 ghost use Rattle.byteorder.specs.Endian.{little_bytes};
 ghost use Rattle.igvm_headers.specs.Checksum.{crc};
 ghost use Rattle.igvm_headers.specs.Spelling.{spelled};
-ghost use Rattle.igvm_headers.specs.Spellable.{IsSpellable};
-ghost use Rattle.component_list.specs.Components.{with_offset};
-ghost use Rattle.image_builder.specs.Layout.{data_start, kept_contents, section, data_bytes, fixed_front, layout, layout_size};
-ghost use Rattle.image_builder.specs.Plans.{IsPlan, offsets_in};
+ghost use Rattle.igvm_headers.specs.SpellingConditions.{IsSpellable};
+ghost use Rattle.igvm_headers.specs.HeaderFacts.{with_offset};
+ghost use Rattle.image_builder.specs.Layout.{section, data_bytes, layout, layout_size};
+ghost use Rattle.image_builder.specs.Plans.{IsPlan, in_version};
 
-use crate::placing::with_offset;
+use crate::fixed_header::write_fixed;
 use crate::plan::Plan;
 use component_list::Component;
 use igvm_headers::{Memory, crc32, encode_header};
@@ -26,39 +26,30 @@ pub(crate) fn write_front(
     plan: &Plan,
 ) -> Result<Vec<u8>, Memory>
     requires each { AllByRecursion (λ c. IsSpellable c.header c.tail) parts.now }
-    requires planned { IsPlan plan.now.section plan.now.offsets.items plan.now.contents parts.now }
-    requires within { layout_size parts.now ≤ 536870912 }
-    ensures { IfOk result (λ front. front.items ++ data_bytes parts.now ≡ layout parts.now) }
+    requires planned { IsPlan plan.now.section plan.now.offsets.items plan.now.contents
+        (in_version plan.now.version parts.now) }
+    requires within { layout_size (in_version plan.now.version parts.now) ≤ 536870912 }
+    ensures { IfOk result (λ front. front.items ++ data_bytes parts.now
+        ≡ layout (in_version plan.now.version parts.now)) }
 {
-    let Ok(mut image) = Vec::with_capacity(alloc, plan.contents.start() as usize) else {
-        return Err(Memory);
-    };
+    let mut image = Vec::with_capacity(alloc, plan.contents.start() as usize)?;
     let total = plan.contents.end();
-    write_fixed(plan.section as u32, total as u32, &mut image)?;
-    write_headers(parts, plan.offsets.as_slice(), &mut image)?;
+    write_fixed(plan.version, plan.section as u32, total as u32, &mut image)?;
+    write_headers(parts, plan, &mut image)?;
     write_checksum(&mut image);
     Ok(image)
 }
 
-/// The fixed header, with zeros for its checksum.
-fn write_fixed(section: u32, total: u32, image: &mut Vec<u8>) -> Result<(), Memory>
-    ensures { OnOk result (image.new.items
-        ≡ image.old.items ++ fixed_front section total ++ replicate 4 0) }
-{
-    append(b"IGVM\x01\0\0\0\x18\0\0\0", image)?;
-    append(&section.to_le_bytes(), image)?;
-    append(&total.to_le_bytes(), image)?;
-    append(&[0; 4], image)
-}
-
 /// The headers in order, each with the file offset of its data.
-fn write_headers(parts: &[Component], offsets: &[u64], image: &mut Vec<u8>) -> Result<(), Memory>
+fn write_headers(parts: &[Component], plan: &Plan, image: &mut Vec<u8>) -> Result<(), Memory>
     requires each { AllByRecursion (λ c. IsSpellable c.header c.tail) parts.now }
-    requires placed { offsets.now
-        ≡ offsets_in (data_start parts.now) (kept_contents parts.now) parts.now }
-    requires within { layout_size parts.now ≤ 536870912 }
-    ensures { OnOk result (image.new.items ≡ image.old.items ++ section parts.now) }
+    requires planned { IsPlan plan.now.section plan.now.offsets.items plan.now.contents
+        (in_version plan.now.version parts.now) }
+    requires within { layout_size (in_version plan.now.version parts.now) ≤ 536870912 }
+    ensures { OnOk result (image.new.items
+        ≡ image.old.items ++ section (in_version plan.now.version parts.now)) }
 {
+    let offsets = plan.offsets.as_slice();
     'parts: for (place, component) in parts.iter().enumerate() {
         write_header(component, offsets[place] as u32, image)?;
     }
@@ -71,7 +62,7 @@ fn write_header(component: &Component, offset: u32, image: &mut Vec<u8>) -> Resu
     ensures { OnOk result (image.new.items ≡ image.old.items
         ++ spelled (with_offset offset component.now.header) component.now.tail) }
 {
-    let header = with_offset(&component.header, offset);
+    let header = component.header.with_offset(offset);
     encode_header(&header, component.tail.bytes(), image)
 }
 
@@ -100,8 +91,6 @@ fn put(bytes: &[u8], at: usize, image: &mut [u8])
 pub(crate) fn append(bytes: &[u8], image: &mut Vec<u8>) -> Result<(), Memory>
     ensures { OnOk result (image.new.items ≡ image.old.items ++ bytes.now) }
 {
-    match image.extend_from_slice(bytes) {
-        Ok(()) => Ok(()),
-        Err(_) => Err(Memory),
-    }
+    image.extend_from_slice(bytes)?;
+    Ok(())
 }

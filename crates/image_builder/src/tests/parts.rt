@@ -1,6 +1,5 @@
 //! Lists for tests.
 
-use crate::placing::with_offset;
 use component_list::{Blob, Component, ComponentList, Content};
 use igvm_headers::{Header, PageKind, ParamKind, PlatformKind};
 use std::alloc::Global;
@@ -17,14 +16,14 @@ pub(super) struct Parts {
 impl Model for Parts {
     ghost use Rattle.std.specs.Prelude.{List, ◌≡◌};
     ghost use Rattle.std.specs.List.{AllByRecursion};
-    ghost use Rattle.component_list.specs.Components.{offset_of};
+    ghost use Rattle.igvm_headers.specs.HeaderFacts.{data_offset};
     ghost use Rattle.component_list.specs.declared.component.Component as entry;
 
     ghost Value = { List entry.Component };
 
     ghost view = { λ p. p.parts.items };
 
-    ghost invariant = { λ p. AllByRecursion (λ c. offset_of c.header ≡ 0) p.parts.items };
+    ghost invariant = { λ p. AllByRecursion (λ c. data_offset c.header ≡ 0) p.parts.items };
 }
 
 impl Parts {
@@ -47,7 +46,7 @@ impl Parts {
         content: Content,
     ) -> Result<(), Fail> {
         self.parts.push(Component {
-            header: with_offset(&header, 0),
+            header: header.with_offset(0),
             tail,
             content,
         })?;

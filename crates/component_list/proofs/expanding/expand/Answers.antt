@@ -1,5 +1,5 @@
-use Rattle.std.proofs.Common.{ap, length, arith}
-use Rattle.component_list.proofs.Stepping.{starting, stepping, left_of, taken_of, found_of, front_of, file_cause, given_right, rule_right, short_all, short_more, told_at}
+use Rattle.std.proofs.Common.{ap, length, arith, ◌+◌}
+use Rattle.component_list.proofs.Stepping.{starting, stepping, left_of, taken_of, found_of, front_of, file_cause, given_right, rule_right, short_all, short_more, none_more, names_none, told_at}
 use Rattle.component_list.proofs.Reached.{read_reached, rules_reached}
 use Rattle.component_list.proofs.expanding.expand.Goals as goal
 
@@ -49,6 +49,18 @@ pub returns-clause-given : goal.returns-clause-given
 returns-clause-given g c =
     rule_right c.args.source.now.directives _ c.finish.result c.finish.ensures.rule
     (short_all c.args.source.now.directives c.directives.item _ (let all = ap length c.directives-directives.ensures.value in omega arith) c.directives.invariant.short)
+
+pub returns-in-Err-clause-no_file : goal.returns-in-Err-clause-no_file
+returns-in-Err-clause-no_file g c = λ none.
+    none_more c.args.source.now.directives c.directives.item _ _ _ _
+    (taken_of _ _ _ _ c.directives-directives.ensures.value c.directives-test.true c.index-directives-item.is)
+    c.directives.invariant.no_file c.read_file.ensures.same (names_none c.args.source.now.directives (c.directives.item + 1) none)
+
+pub returns-in-Err-add-clause-no_file : goal.returns-in-Err-add-clause-no_file
+returns-in-Err-add-clause-no_file g c = λ none.
+    none_more c.args.source.now.directives c.directives.item _ _ _ _
+    (taken_of _ _ _ _ c.directives-directives.ensures.value c.directives-test.true c.index-directives-item.is)
+    c.directives.invariant.no_file c.read_file.ensures.same (names_none c.args.source.now.directives (c.directives.item + 1) none)
 
 pub directives-preserved : goal.directives-preserved
 directives-preserved g c =

@@ -7,4 +7,4 @@ pub of_valid-requires : goal.of_valid-requires
 of_valid-requires c =
     let few : length (placed_headers c.args.view.now) < 2 ^ 32 =
     subst (λ (ps : List PlacedHeader). length ps < 2 ^ 32) c.headers-placed-items.ensures.placed c.headers-placed-items.ensures.few in
-    (listing_end c.args.view.now _ _ c.fixed-accepted.ensures.accepted few c.headers.invariant c.in-None.ensures.steps.0).1
+    (listing_end c.args.view.now _ _ c.fixed-fixed.ensures.accepted few c.headers.invariant c.in-None.ensures.steps.0).1

@@ -1,5 +1,5 @@
 use Rattle.std.proofs.Common.{arith}
-use Rattle.component_list.specs.Images.{data_bytes}
+use Rattle.component_list.specs.ImageList.{data_bytes}
 use Rattle.component_list.proofs.ImageLists.{pages_more}
 use Rattle.component_list.proofs.image_list.data_bytes.Goals as goal
 

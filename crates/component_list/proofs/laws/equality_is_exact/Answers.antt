@@ -1,10 +1,8 @@
-use Rattle.std.proofs.Common.{refl}
-use Rattle.std.proofs.lemmas.Slice.Eq.{slice_eq-Decides}
-use Rattle.component_list.proofs.Equality.{components_exact}
+use Rattle.component_list.proofs.Equality.{components_exact, lists_exact}
 use Rattle.component_list.proofs.laws.equality_is_exact.Goals as goal
 
 pub returns-clause-components : goal.returns-clause-components
 returns-clause-components c = components_exact
 
 pub returns-clause-lists : goal.returns-clause-lists
-returns-clause-lists c = λ a b. slice_eq-Decides components_exact a b _ refl
+returns-clause-lists c = lists_exact

@@ -1,5 +1,8 @@
-use Rattle.component_list.proofs.ImageLists.{image_list_kept}
+use Rattle.component_list.proofs.ImageLists.{image_list_kept, image_version_known}
 use Rattle.component_list.proofs.laws.image_lists_are_valid.Goals as goal
 
-pub returns : goal.returns
-returns c = image_list_kept
+pub returns-clause-version : goal.returns-clause-version
+returns-clause-version c = image_version_known
+
+pub returns-clause-parts : goal.returns-clause-parts
+returns-clause-parts c = image_list_kept

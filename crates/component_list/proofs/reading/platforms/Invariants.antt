@@ -1,4 +1,4 @@
-use Rattle.component_list.specs.Sources.{platform_entry}
+use Rattle.component_list.specs.ListForms.{platform_entry}
 use Rattle.component_list.specs.declared.refusal.ListPart.TheVariants as part
 use Rattle.component_list.proofs.EntryWalks.{EntryWalk}
 use Rattle.component_list.proofs.reading.platforms.Given as goal

@@ -1,4 +1,4 @@
-use Rattle.component_list.specs.Sources.{policy_entry}
+use Rattle.component_list.specs.ListForms.{policy_entry}
 use Rattle.component_list.specs.declared.refusal.ListPart.TheVariants as part
 use Rattle.component_list.proofs.EntryWalks.{EntryWalk}
 use Rattle.component_list.proofs.reading.policies.Given as goal

@@ -1,7 +1,7 @@
 -- one component more is placed at a time
 use Rattle.std.proofs.Common.{◌≡◌, ℕ, ◌+◌, ◌<◌, List, [], ◌∷◌, ◌++◌, length, take, ap, sym, subst, ◌∙◌, arith, rules}
 use Rattle.std.proofs.lemmas.List.{take_more, take_all}
-use Rattle.image_builder.specs.Keeping.{saturated}
+use Rattle.image_builder.specs.ContentIndex.{saturated}
 use Rattle.image_builder.specs.Layout.{offset_among}
 use Rattle.image_builder.proofs.Places.{Placing, placing_start, placing_step, placing_kept, placing_offsets}
 use Rattle.image_builder.proofs.plan.place_all.Goals as goal
@@ -10,7 +10,7 @@ pub parts-init : goal.parts-init
 parts-init c =
     let start = c.args.row.now.start in
     let parts = c.args.parts.now in
-    let none : c.in-Ok.offsets.items ≡ [] = search rules in
+    let none : c.in_ok-offsets.offsets.items ≡ [] = search rules in
     record {
       placing = subst (λ (os : List ℕ). Placing start parts c.args.row.now.kept os 0) (sym none)
           (subst (λ (kept : List (List ℕ)). Placing start parts kept [] 0) (sym c.requires) (placing_start start parts));
@@ -31,7 +31,7 @@ parts-preserved c =
     let step = placing_step start parts c.parts.row.kept next c.parts.offsets.items place c.in_ok-offset.offset item
     c.parts.invariant.placing here c.in_ok-offset.ensures.kept placed in
     record {
-      placing = subst (λ (os : List ℕ). Placing start parts next os (place + 1)) (sym c.in-Ok-push.ensures.items) step;
+      placing = subst (λ (os : List ℕ). Placing start parts next os (place + 1)) (sym c.in_ok-push.ensures.items) step;
       start = c.place.ensures.start ∙ c.parts.invariant.start;
     }
 

@@ -1,4 +1,4 @@
-use Rattle.image_builder.proofs.ReadBack.{Laws, accepted_back, parts_back}
+use Rattle.image_builder.proofs.ReadBack.{Laws, accepted_back, list_is_back}
 use Rattle.image_builder.proofs.read_back.built_is_read_back.Goals as goal
 
 laws : goal.After-offsets_do_not_count → Laws
@@ -20,7 +20,7 @@ laws c = record {
 }
 
 pub returns-clause-accepted : goal.returns-clause-accepted
-returns-clause-accepted c = λ parts valid within. accepted_back (laws c) parts (record { valid = valid; within = within })
+returns-clause-accepted c = λ list is within. accepted_back (laws c) list (record { is = is; within = within })
 
 pub returns-clause-list : goal.returns-clause-list
-returns-clause-list c = λ parts valid within. parts_back (laws c) parts (record { valid = valid; within = within })
+returns-clause-list c = λ list is within. list_is_back (laws c) list (record { is = is; within = within })

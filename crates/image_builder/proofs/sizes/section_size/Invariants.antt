@@ -1,6 +1,6 @@
 use Rattle.std.proofs.Common.{◌≡◌, take}
 use Rattle.std.specs.Prelude.{sum_by}
-use Rattle.image_builder.specs.Keeping.{saturated}
+use Rattle.image_builder.specs.ContentIndex.{saturated}
 use Rattle.image_builder.specs.Layout.{spelled_size}
 use Rattle.image_builder.proofs.sizes.section_size.Given as goal
 

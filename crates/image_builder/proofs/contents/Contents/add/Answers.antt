@@ -2,9 +2,9 @@
 use Rattle.std.proofs.Common.{◌≡◌, ℕ, ◌+◌, List, ◌++◌, ◌∷◌, [], ap, sym, subst, ◌∙◌, arith, false, None, length, Bor}
 use Rattle.std.specs.Prelude.{sum_by}
 use Rattle.std.proofs.lemmas.List.{map-append}
-use Rattle.image_builder.specs.Contents.{place_of}
-use Rattle.igvm_outside.specs.Pieces.{lent}
-use Rattle.image_builder.specs.Keeping.{Row, IsIndex, is_kept, kept_with, place_in, saturated}
+use Rattle.image_builder.specs.DistinctContents.{place_of}
+use Rattle.igvm_outside.specs.JoinedBytes.{lent}
+use Rattle.image_builder.specs.ContentIndex.{Row, IsIndex, is_kept, kept_with, place_in, saturated}
 use Rattle.image_builder.proofs.Kept.{index_more, end_more, missed_in, kept_more, place_added}
 use Rattle.image_builder.proofs.contents.Contents.add.Goals as goal
 

@@ -1,6 +1,6 @@
 -- the index has the place of each content of the row, and of no other
 use Rattle.std.proofs.Common.{ap, ◌∙◌}
-use Rattle.image_builder.specs.Keeping.{Row, place_in}
+use Rattle.image_builder.specs.ContentIndex.{Row, place_in}
 use Rattle.image_builder.proofs.contents.Contents.find.Goals as goal
 
 pub returns : goal.returns

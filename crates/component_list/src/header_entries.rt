@@ -2,16 +2,15 @@
 ghost use Rattle.std.specs.Prelude.{◌≡◌, codes};
 ghost use Rattle.serde_json.specs.View.{view};
 ghost use Rattle.json_forms.specs.Forms.{required};
-ghost use Rattle.component_list.specs.Sources.{platform_entry, policy_entry, param_fields, insert_fields, required_fields, error_range_fields, platform_kind, param_kind};
+ghost use Rattle.component_list.specs.ListForms.{platform_entry, policy_entry, param_fields, insert_fields, required_fields, error_range_fields, platform_kind, param_kind};
 
 use crate::fields::{address, address_or_0, byte_or_0, short_or_1, word, word_or_0};
-use crate::kinds;
 use igvm_headers::{Header, ParamKind, PlatformKind};
 use json_forms::has_only;
 use serde_json::Value;
 
 /// An entry of `platforms`.
-#[tactic(auto, unfolding(crate::specs::Sources::platform_entry))]
+#[tactic(auto, unfolding(crate::specs::ListForms::platform_entry))]
 pub(crate) fn platform_entry(json: &Value) -> Option<Header>
     ensures { result ≡ platform_entry (view json.now) }
 {
@@ -35,11 +34,11 @@ pub(crate) fn platform_entry(json: &Value) -> Option<Header>
 fn platform_kind_at(json: &Value) -> Option<PlatformKind>
     ensures { result ≡ required platform_kind (codes "kind") (view json.now) }
 {
-    kinds::platform_kind(json.get("kind")?)
+    PlatformKind::from_name(json.get("kind")?.as_str()?)
 }
 
 /// An entry of `policies`.
-#[tactic(auto, unfolding(crate::specs::Sources::policy_entry))]
+#[tactic(auto, unfolding(crate::specs::ListForms::policy_entry))]
 pub(crate) fn policy_entry(json: &Value) -> Option<Header>
     ensures { result ≡ policy_entry (view json.now) }
 {
@@ -52,7 +51,7 @@ pub(crate) fn policy_entry(json: &Value) -> Option<Header>
 }
 
 /// The header of a `param`.
-#[tactic(auto, unfolding(crate::specs::Sources::param_fields))]
+#[tactic(auto, unfolding(crate::specs::ListForms::param_fields))]
 pub(crate) fn param_fields(json: &Value) -> Option<Header>
     ensures { result ≡ param_fields (view json.now) }
 {
@@ -69,11 +68,11 @@ pub(crate) fn param_fields(json: &Value) -> Option<Header>
 fn param_kind_at(json: &Value) -> Option<ParamKind>
     ensures { result ≡ required param_kind (codes "kind") (view json.now) }
 {
-    kinds::param_kind(json.get("kind")?)
+    ParamKind::from_name(json.get("kind")?.as_str()?)
 }
 
 /// The header of an `insert`.
-#[tactic(auto, unfolding(crate::specs::Sources::insert_fields))]
+#[tactic(auto, unfolding(crate::specs::ListForms::insert_fields))]
 pub(crate) fn insert_fields(json: &Value) -> Option<Header>
     ensures { result ≡ insert_fields (view json.now) }
 {
@@ -84,7 +83,7 @@ pub(crate) fn insert_fields(json: &Value) -> Option<Header>
 }
 
 /// The header of a `required`.
-#[tactic(auto, unfolding(crate::specs::Sources::required_fields))]
+#[tactic(auto, unfolding(crate::specs::ListForms::required_fields))]
 pub(crate) fn required_fields(json: &Value) -> Option<Header>
     ensures { result ≡ required_fields (view json.now) }
 {
@@ -101,7 +100,7 @@ pub(crate) fn required_fields(json: &Value) -> Option<Header>
 }
 
 /// The header of an `error_range`.
-#[tactic(auto, unfolding(crate::specs::Sources::error_range_fields))]
+#[tactic(auto, unfolding(crate::specs::ListForms::error_range_fields))]
 pub(crate) fn error_range_fields(json: &Value) -> Option<Header>
     ensures { result ≡ error_range_fields (view json.now) }
 {

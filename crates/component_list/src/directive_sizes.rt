@@ -2,11 +2,9 @@
 ghost use Rattle.std.specs.Prelude.{◌≡◌, ◌≤◌, length, option_map};
 ghost use Rattle.component_list.specs.Expansion.{breaks_end, breaks_size, bytes_or_none, content_bytes, is_longer, pages_named, size_if};
 
-use crate::runs::{page_size, pages_for, passes_end, small_pages};
+use crate::page_run::{pages_for, passes_end};
 use crate::source::Directive;
-
-/// The bytes of a context.
-pub(crate) const CONTEXT: u32 = 4096;
+use igvm_headers::{PAGE_SIZE, page_bytes, small_pages};
 
 /// The bytes of a file, lent, where there is one.
 pub(crate) fn lent(file: &Option<Vec<u8>>) -> Option<&[u8]>
@@ -33,18 +31,18 @@ pub(crate) fn breaks_size(directive: &Directive, file: Option<&[u8]>) -> bool
     ensures { result ≡ breaks_size directive.now (option_map (λ b. b.now) file.entry) }
 {
     match directive {
-        Directive::Area { bytes, .. } => is_longer(*bytes, file),
-        Directive::Context { .. } => is_longer(CONTEXT, file),
+        Directive::Area { bytes, .. } => is_longer(u64::from(*bytes), file),
+        Directive::Context { .. } => is_longer(PAGE_SIZE, file),
         _ => false,
     }
 }
 
-fn is_longer(size: u32, file: Option<&[u8]>) -> bool
+fn is_longer(size: u64, file: Option<&[u8]>) -> bool
     ensures { result ≡ is_longer size (option_map (λ b. b.now) file.entry) }
 {
     match file {
         None => false,
-        Some(bytes) => bytes.len() as u64 > u64::from(size),
+        Some(bytes) => bytes.len() as u64 > size,
     }
 }
 
@@ -67,8 +65,10 @@ pub(crate) fn pages_named(directive: &Directive, file: Option<&[u8]>) -> u64
     ensures within { result ≤ 2199023255552 }
 {
     match directive {
-        Directive::Pages { run, .. } => { small_pages(run) * pages_for(run, bytes_of(file).len()) }
-        Directive::Zeros { run, count } => small_pages(run) * u64::from(*count),
+        Directive::Pages { run, .. } => {
+            small_pages(run.large) * pages_for(run, bytes_of(file).len())
+        }
+        Directive::Zeros { run, count } => small_pages(run.large) * u64::from(*count),
         _ => 0,
     }
 }
@@ -80,19 +80,21 @@ pub(crate) fn content_bytes(directive: &Directive, file: Option<&[u8]>) -> u64
     ensures within { result ≤ 274877906944 }
 {
     match directive {
-        Directive::Pages { run, .. } => { page_size(run) * pages_for(run, bytes_of(file).len()) }
-        Directive::Area { bytes, .. } => size_if(*bytes, file),
-        Directive::Context { .. } => size_if(CONTEXT, file),
+        Directive::Pages { run, .. } => {
+            page_bytes(run.large) * pages_for(run, bytes_of(file).len())
+        }
+        Directive::Area { bytes, .. } => size_if(u64::from(*bytes), file),
+        Directive::Context { .. } => size_if(PAGE_SIZE, file),
         _ => 0,
     }
 }
 
-fn size_if(size: u32, file: Option<&[u8]>) -> u64
+fn size_if(size: u64, file: Option<&[u8]>) -> u64
     ensures value { result ≡ size_if size (option_map (λ b. b.now) file.entry) }
-    ensures within { result ≤ 4294967295 }
+    ensures within { result ≤ size }
 {
     match file {
         None => 0,
-        Some(_) => u64::from(size),
+        Some(_) => size,
     }
 }

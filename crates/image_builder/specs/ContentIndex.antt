@@ -5,7 +5,7 @@ use Rattle.std.specs.Ordering.{nat_cmp}
 use Rattle.std.specs.Cmp.Lexicographic.{slice_cmp}
 use Rattle.std.specs.BTreeMap.{BTreeMap, get_by}
 use denote.Ref.{Bor}
-use Rattle.image_builder.specs.Contents.{place_of}
+use Rattle.image_builder.specs.DistinctContents.{place_of}
 
 -- these bytes are among the contents
 abbrev pub is_kept : List ℕ → List (List ℕ) → Bool

@@ -1,6 +1,6 @@
 use Rattle.std.proofs.Common.{arith, refl}
 use Rattle.image_builder.proofs.Written.{contents_more}
-use Rattle.image_builder.proofs.building.append_all.Goals as goal
+use Rattle.image_builder.proofs.joined_image.append_all.Goals as goal
 
 pub contents-preserved : goal.contents-preserved
 contents-preserved c =

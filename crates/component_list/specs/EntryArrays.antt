@@ -1,13 +1,14 @@
 -- A list's entries as far as they are read, for private clauses.
 use Rattle.std.specs.Prelude.{List, ◌++◌, Result, Ok, Err}
 use Rattle.serde_json.specs.View.{items_view}
-use Rattle.component_list.specs.declared.reading.Arrays.{Arrays}
+use Rattle.component_list.specs.declared.reading.ListFields.{ListFields}
 use Rattle.component_list.specs.declared.refusal.ListRefusal.{ListRefusal}
-use Rattle.component_list.specs.Sources as sources
+use Rattle.component_list.specs.ListForms as forms
 
--- the three arrays as the code lends them
-abbrev pub arrays_view : Arrays → sources.Arrays
-arrays_view a = record {
+-- the version, and the three arrays as the code lends them
+abbrev pub fields_view : ListFields → forms.ListFields
+fields_view a = record {
+  version = a.version;
   platforms = items_view a.platforms.now;
   policies = items_view a.policies.now;
   directives = items_view a.directives.now;

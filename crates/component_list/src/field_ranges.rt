@@ -1,18 +1,19 @@
 //! What the types of a component say of its numbers, as facts that a caller sees.
 ghost use Rattle.std.specs.Prelude.{◌≡◌};
-ghost use Rattle.component_list.specs.Components.{offset_of};
-ghost use Rattle.component_list.specs.Ranges.{FitsFields, HoldsBytes, IsComponent};
+ghost use Rattle.igvm_headers.specs.HeaderFacts.{data_offset};
+ghost use Rattle.component_list.specs.Ranges.{HoldsBytes, IsComponent, ListsAreBytes};
 
 use crate::blob::note_bytes;
 use crate::component::{Component, Content};
-use igvm_headers::Header;
+use igvm_headers::{Header, numbers_fit};
 
 /// A component at file offset 0 has numbers that fit their fields, and bytes.
 pub(crate) fn note_component(component: &Component)
-    requires { offset_of component.now.header ≡ 0 }
+    requires { data_offset component.now.header ≡ 0 }
     ensures { IsComponent component.now }
 {
-    note_fields(component.header);
+    numbers_fit(component.header);
+    note_lists(component.header);
     note_bytes(component.tail.bytes());
     note_content(&component.content);
 }
@@ -25,9 +26,9 @@ fn note_content(content: &Content)
     }
 }
 
-/// A header's numbers fit their fields: their types say so, and of lists each is noted.
-fn note_fields(header: Header)
-    ensures { FitsFields header }
+/// The three lists of an ID block are bytes.
+fn note_lists(header: Header)
+    ensures { ListsAreBytes header }
 {
     if let Header::IdBlock {
         ld,

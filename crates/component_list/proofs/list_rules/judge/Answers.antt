@@ -3,12 +3,12 @@ use Rattle.std.specs.Prelude.{if◌then◌else◌, ◌==◌}
 use Rattle.std.specs.List.{AllByRecursion}
 use Rattle.std.proofs.lemmas.List.{take_more, drop_all, take_all}
 use Rattle.igvm_headers.specs.declared.fault.ReadWhat.TheVariants.{NoPlatform}
-use Rattle.igvm_image.specs.Rules.{Seen}
+use Rattle.igvm_image.specs.HeaderRules.{Seen}
 use Rattle.component_list.specs.declared.component.Component.{Component}
 use Rattle.component_list.specs.Ranges.{IsComponent}
 use Rattle.component_list.specs.Lists.{fault_in}
 use Rattle.component_list.proofs.Judged.{Judging, judging_start, judging_follows, judging_fault, judging_step, judging_done}
-use Rattle.component_list.proofs.judging.judge.Goals as goal
+use Rattle.component_list.proofs.list_rules.judge.Goals as goal
 
 -- the component at a place, and those behind it
 left : (parts : List Component) (place : ℕ) (c : Component) → place < length parts → c ≡ get_or parts place c

@@ -1,25 +1,10 @@
 //! The numbers of a run of pages.
 ghost use Rattle.std.specs.Prelude.{◌≡◌, ◌*◌, ◌≤◌};
-ghost use Rattle.component_list.specs.Expansion.{page_size, small_pages, pages_for, passes_end};
+ghost use Rattle.igvm_headers.specs.Pages.{page_bytes};
+ghost use Rattle.component_list.specs.Expansion.{pages_for, passes_end};
 
 use crate::source::PageRun;
-
-/// The bytes of one of the pages.
-pub(crate) fn page_size(run: &PageRun) -> u64
-    ensures value { result ≡ page_size run.now }
-    ensures some { 4096 ≤ result }
-    ensures within { result ≤ 2097152 }
-{
-    if run.large { 2_097_152 } else { 4096 }
-}
-
-/// How many pages of 4 KB one of the pages is.
-pub(crate) fn small_pages(run: &PageRun) -> u64
-    ensures value { result ≡ small_pages run.now }
-    ensures within { result ≤ 512 }
-{
-    if run.large { 512 } else { 1 }
-}
+use igvm_headers::{LARGE_PAGE_SIZE, PAGE_SIZE};
 
 /// The least number of pages that hold so many bytes.
 pub(crate) fn pages_for(run: &PageRun, size: usize) -> u64
@@ -28,9 +13,9 @@ pub(crate) fn pages_for(run: &PageRun, size: usize) -> u64
     ensures within { result ≤ 131072 }
 {
     if run.large {
-        (size as u64 + 2_097_151) / 2_097_152
+        (size as u64 + (LARGE_PAGE_SIZE - 1)) / LARGE_PAGE_SIZE
     } else {
-        (size as u64 + 4095) / 4096
+        (size as u64 + (PAGE_SIZE - 1)) / PAGE_SIZE
     }
 }
 
@@ -45,7 +30,11 @@ pub(crate) fn passes_end(run: &PageRun, count: u64) -> bool
 /// The bytes before page `k`.
 pub(crate) fn place_of(run: &PageRun, k: u64) -> u64
     requires { k ≤ 4294967296 }
-    ensures { result ≡ page_size run.now * k }
+    ensures { result ≡ page_bytes run.now.large * k }
 {
-    if run.large { 2_097_152 * k } else { 4096 * k }
+    if run.large {
+        LARGE_PAGE_SIZE * k
+    } else {
+        PAGE_SIZE * k
+    }
 }

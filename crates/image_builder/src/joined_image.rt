@@ -1,9 +1,9 @@
 //! The builder's image in one place.
 ghost use Rattle.std.specs.Prelude.{◌≡◌, ◌≤◌, ◌++◌, length, IfOk, IfErr, OnOk};
 ghost use Rattle.std.specs.List.{concat};
-ghost use Rattle.igvm_outside.specs.Pieces.{lent};
+ghost use Rattle.igvm_outside.specs.JoinedBytes.{lent};
 ghost use Rattle.igvm_image.specs.Headers.{IsAccepted};
-ghost use Rattle.component_list.specs.Images.{list_of};
+ghost use Rattle.component_list.specs.ImageList.{list_of};
 ghost use Rattle.image_builder.specs.Layout.{layout};
 ghost use Rattle.image_builder.specs.Refusals.{IsTooLarge};
 
@@ -33,9 +33,7 @@ pub fn build(alloc: Global, list: &ComponentList) -> Result<Vec<u8>, BuildRefusa
 fn join(alloc: Global, image: &Image) -> Result<Vec<u8>, Memory>
     ensures { IfOk result (λ bytes. bytes.items ≡ image.now) }
 {
-    let Ok(mut bytes) = Vec::with_capacity(alloc, image.len() as usize) else {
-        return Err(Memory);
-    };
+    let mut bytes = Vec::with_capacity(alloc, image.len() as usize)?;
     append(image.front(), &mut bytes)?;
     append_all(image.contents(), &mut bytes)?;
     Ok(bytes)

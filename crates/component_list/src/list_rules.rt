@@ -1,29 +1,27 @@
 //! The rules on the components of a list, in their order: docs/LIST.md has them in words.
 ghost use Rattle.std.specs.Prelude.{◌≡◌, ◌<◌, ◌≤◌, ◌^◌, Some, None, length, if◌then◌else◌, OnOk, IfErr};
 ghost use Rattle.std.specs.List.{AllByRecursion};
-ghost use Rattle.igvm_headers.specs.Records.{is_carried};
-ghost use Rattle.component_list.specs.Components.{offset_of, is_unknown, carried_kind, tail_size, fills, is_nothing, fits_content, breaks_length, breaks_data_type};
+ghost use Rattle.component_list.specs.Components.{is_unknown, carried_kind, fills, is_nothing, fits_content, breaks_length, breaks_data_type};
+ghost use Rattle.igvm_headers.specs.HeaderFacts.{data_offset};
 ghost use Rattle.component_list.specs.Ranges.{IsComponent};
 ghost use Rattle.component_list.specs.Lists.{component_fault, list_fault, IsValid};
 
 use crate::component::{Component, Content};
+use crate::field_ranges::note_component;
 use crate::list_fault::ListFault;
-use crate::ranges::note_component;
-use igvm_headers::{Header, PageKind, ReadWhat};
+use igvm_headers::{Header, PageKind, ReadWhat, is_carried};
 use igvm_image::SeenHeaders;
-
-/// The bytes of an ID block that are carried unread.
-const ID_BLOCK_TAIL: u32 = 592;
 
 /// The first fault of a list of components.
 pub(crate) fn judge(parts: &[Component]) -> Result<(), ListFault>
     requires few { length parts.now < 2 ^ 32 }
-    requires offsets { AllByRecursion (λ c. offset_of c.header ≡ 0) parts.now }
+    requires offsets { AllByRecursion (λ c. data_offset c.header ≡ 0) parts.now }
     ensures valid { OnOk result (IsValid parts.now) }
     ensures fault { IfErr result (λ e. list_fault parts.now ≡ Some e) }
 {
     let mut seen = SeenHeaders::new();
     'parts: for (place, component) in parts.iter().enumerate() {
+        // A law: nothing runs.
         note_component(component);
         if let Some(what) = component_fault(&seen, component) {
             let place = place as u32;
@@ -68,42 +66,21 @@ fn unknown_kind(header: &Header) -> Option<u32>
     }
 }
 
-/// A type that is carried as bytes.
-fn is_carried(kind: u32) -> bool
-    ensures { result ≡ is_carried kind }
-{
-    kind == 0x102 || kind == 0x103 || kind == 0x311 || kind >= 0x8000_0000
-}
-
 /// The tail or the content has another size than the header's.
 fn breaks_length(component: &Component) -> bool
     ensures { result ≡ breaks_length component.now }
 {
-    let tail = component.tail.bytes().len();
-    tail != tail_size(&component.header) as usize
+    component.tail.bytes().len() != component.header.tail_size() as usize
         || !fits_content(&component.header, &component.content)
-}
-
-/// How many bytes a header's record carries unread.
-fn tail_size(header: &Header) -> u32
-    ensures { result ≡ tail_size header.now }
-{
-    match header {
-        Header::IdBlock { .. } => ID_BLOCK_TAIL,
-        Header::Carried { length, .. } => *length,
-        _ => 0,
-    }
 }
 
 /// The content is of the header's size, or there is none where the header has no data.
 fn fits_content(header: &Header, content: &Content) -> bool
     ensures { result ≡ fits_content header.now content.now }
 {
-    match header {
-        Header::Area { bytes, .. } => fills(*bytes, content),
-        Header::Page { large, .. } => fills(if *large { 2_097_152 } else { 4096 }, content),
-        Header::Context { .. } => fills(4096, content),
-        _ => is_nothing(content),
+    match header.data_size() {
+        Some(size) => fills(size, content),
+        None => is_nothing(content),
     }
 }
 

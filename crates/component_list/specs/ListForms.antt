@@ -1,14 +1,15 @@
 -- What a component list's JSON says, or its first refusal: docs/LIST.md has the forms in words.
-use Rattle.std.specs.Prelude.{ℕ, suc, ◌&&◌, bytes_eq, nat_le, false, if◌then◌else◌, codes, List, [], ◌∷◌, find, replicate, option_map, Option, Some, None, option_and_then, Result, Ok, Err}
-use Rattle.igvm_headers.specs.Names.{kind_text, page_kind_text, param_text}
+use Rattle.std.specs.Prelude.{ℕ, suc, ◌&&◌, nat_le, bytes_eq, false, if◌then◌else◌, codes, List, [], ◌∷◌, replicate, option_map, Option, Some, None, option_and_then, Result, Ok, Err}
+use Rattle.igvm_headers.specs.Fixed.{is_version}
+use Rattle.igvm_headers.specs.PlatformKinds.{platform_kind_named}
+use Rattle.igvm_headers.specs.PageKinds.{page_kind_named}
+use Rattle.igvm_headers.specs.ParamKinds.{param_kind_named}
 use Rattle.igvm_headers.specs.declared.header.Header.{Header}
 use Rattle.igvm_headers.specs.declared.header.Header.TheVariants as header
 use Rattle.igvm_headers.specs.declared.page_kind.PageKind.{PageKind}
-use Rattle.igvm_headers.specs.declared.page_kind.PageKind.TheVariants.{Normal, Secrets, Cpuid, CpuidXf}
+use Rattle.igvm_headers.specs.declared.page_kind.PageKind.TheVariants.{Normal}
 use Rattle.igvm_headers.specs.declared.param_kind.ParamKind.{ParamKind}
-use Rattle.igvm_headers.specs.declared.param_kind.ParamKind.TheVariants.{VpCount, Srat, Madt, MmioRanges, MemoryMap, CommandLine, Slit, Pptt, DeviceTree, EnvironmentInfo}
 use Rattle.igvm_headers.specs.declared.platform_kind.PlatformKind.{PlatformKind}
-use Rattle.igvm_headers.specs.declared.platform_kind.PlatformKind.TheVariants.{Native, VsmIsolation, SevSnp, Tdx, Sev, SevEs}
 use Rattle.serde_json.specs.Data.{Data, Items, no_items, item}
 use Rattle.serde_json.specs.Events.{items_len}
 use Rattle.serde_json.specs.Find.{as_array, as_bool, as_str}
@@ -21,7 +22,7 @@ use Rattle.component_list.specs.declared.refusal.ListRefusal.TheVariants as refu
 use Rattle.component_list.specs.declared.source.Directive.{Directive}
 use Rattle.component_list.specs.declared.source.Directive.TheVariants as directive
 use Rattle.component_list.specs.declared.source.PageRun.{PageRun}
-use Rattle.component_list.specs.SourceViews.{Source}
+use Rattle.component_list.specs.Source.{Source}
 use Rattle.component_list.specs.TextForms.{file_name, hex_bytes}
 
 -- one form, and then another that may lean on it
@@ -32,27 +33,17 @@ Some x >>= f = f x
 
 -- ---- kinds by their names
 
-abbrev pub platform_kinds : List PlatformKind
-platform_kinds = Native ∷ VsmIsolation ∷ SevSnp ∷ Tdx ∷ Sev ∷ SevEs ∷ []
-
-abbrev pub page_kinds : List PageKind
-page_kinds = Normal ∷ Secrets ∷ Cpuid ∷ CpuidXf ∷ []
-
-abbrev pub param_kinds : List ParamKind
-param_kinds =
-    VpCount ∷ Srat ∷ Madt ∷ MmioRanges ∷ MemoryMap ∷ CommandLine ∷ Slit ∷ Pptt ∷ DeviceTree ∷ EnvironmentInfo ∷ []
-
-abbrev pub named : {A : Type 0} → (A → List ℕ) → List A → Data → Option A
-named name kinds json = option_and_then (λ text. find (λ kind. bytes_eq (name kind) text) kinds) (as_str json)
-
+-- a platform kind by its name
 abbrev pub platform_kind : Data → Option PlatformKind
-platform_kind json = named kind_text platform_kinds json
+platform_kind json = option_and_then platform_kind_named (as_str json)
 
+-- a page kind by its name
 abbrev pub page_kind : Data → Option PageKind
-page_kind json = named page_kind_text page_kinds json
+page_kind json = option_and_then page_kind_named (as_str json)
 
+-- a parameter by its name
 abbrev pub param_kind : Data → Option ParamKind
-param_kind json = named param_text param_kinds json
+param_kind json = option_and_then param_kind_named (as_str json)
 
 -- ---- entries
 
@@ -258,14 +249,24 @@ entries_from form part' number (item json others) =
 abbrev pub entries_of : {A : Type 0} → (Data → Option A) → ListPart → Items → Result (List A) ListRefusal
 entries_of form part' items = entries_from form part' 0 items
 
--- the three arrays; `policies` may be missing
-pub record Arrays : Type 0 where
+-- the version of the format, which may be missing, and the three arrays, of which `policies` may be missing
+pub record ListFields : Type 0 where
+  pub version : ℕ
   pub platforms : Items
   pub policies : Items
   pub directives : Items
 
+-- the keys that the object may have
 abbrev pub top_keys : List (List ℕ)
-top_keys = codes "platforms" ∷ codes "policies" ∷ codes "directives" ∷ []
+top_keys = codes "version" ∷ codes "platforms" ∷ codes "policies" ∷ codes "directives" ∷ []
+
+-- a version of the format: 1 or 2
+abbrev pub known_version : ℕ → Option ℕ
+known_version number = if is_version number then Some number else None
+
+-- the version of the format, as a number of 32 bits
+abbrev pub format_version : Data → Option ℕ
+format_version json = option_and_then known_version (word json)
 
 -- An array. A text of at most 16,777,216 bytes has no more entries than that.
 abbrev pub few_entries : Items → Option Items
@@ -274,38 +275,39 @@ few_entries items = if nat_le (items_len items) 16777216 then Some items else No
 abbrev pub entries : Data → Option Items
 entries json = option_and_then few_entries (as_array json)
 
-abbrev pub array_fields : Data → Option Arrays
-array_fields json = do
+abbrev pub known_fields : Data → Option ListFields
+known_fields json = do
+  version ← optional format_version 1 (codes "version") json
   platforms ← required entries (codes "platforms") json
   policies ← optional entries no_items (codes "policies") json
   directives ← required entries (codes "directives") json
-  Some (record { platforms = platforms; policies = policies; directives = directives })
+  Some (record { version = version; platforms = platforms; policies = policies; directives = directives })
 
-unfoldable pub arrays_of : Data → Option Arrays
-arrays_of json = if has_only top_keys json then array_fields json else None
+unfoldable pub fields_of : Data → Option ListFields
+fields_of json = if has_only top_keys json then known_fields json else None
 
 -- the parts in their order
-abbrev pub and_directives : List Header → List Header → Result (List Directive) ListRefusal → Result Source ListRefusal
-and_directives platforms policies (Ok directives) =
-    Ok (record { platforms = platforms; policies = policies; directives = directives })
-and_directives platforms policies (Err e) = Err e
+abbrev pub and_directives : ℕ → List Header → List Header → Result (List Directive) ListRefusal → Result Source ListRefusal
+and_directives version platforms policies (Ok directives) =
+    Ok (record { version = version; platforms = platforms; policies = policies; directives = directives })
+and_directives version platforms policies (Err e) = Err e
 
-abbrev pub and_policies : List Header → Arrays → Result (List Header) ListRefusal → Result Source ListRefusal
-and_policies platforms arrays (Ok policies) =
-    and_directives platforms policies (entries_of directive_entry part.Directives arrays.directives)
-and_policies platforms arrays (Err e) = Err e
+abbrev pub and_policies : List Header → ListFields → Result (List Header) ListRefusal → Result Source ListRefusal
+and_policies platforms fields (Ok policies) =
+    and_directives fields.version platforms policies (entries_of directive_entry part.Directives fields.directives)
+and_policies platforms fields (Err e) = Err e
 
-abbrev pub and_platforms : Arrays → Result (List Header) ListRefusal → Result Source ListRefusal
-and_platforms arrays (Ok platforms) =
-    and_policies platforms arrays (entries_of policy_entry part.Policies arrays.policies)
-and_platforms arrays (Err e) = Err e
+abbrev pub and_platforms : ListFields → Result (List Header) ListRefusal → Result Source ListRefusal
+and_platforms fields (Ok platforms) =
+    and_policies platforms fields (entries_of policy_entry part.Policies fields.policies)
+and_platforms fields (Err e) = Err e
 
-abbrev pub source_in : Option Arrays → Result Source ListRefusal
+abbrev pub source_in : Option ListFields → Result Source ListRefusal
 source_in None = Err (refusal.Field part.Top 0)
-source_in (Some arrays) = and_platforms arrays (entries_of platform_entry part.Platforms arrays.platforms)
+source_in (Some fields) = and_platforms fields (entries_of platform_entry part.Platforms fields.platforms)
 
 unfoldable pub source_from : Data → Result Source ListRefusal
-source_from json = source_in (arrays_of json)
+source_from json = source_in (fields_of json)
 
 abbrev pub source_by : Option Data → Result Source ListRefusal
 source_by None = Err refusal.NotJson
