@@ -1,6 +1,6 @@
+pub mod JobAnswerLemmas
 pub mod BuildLemmas
-pub mod ErrorLemmas
-pub mod JobLemmas
+pub mod EndingLemmas
+pub mod ImageFileLemmas
 pub mod NumberLemmas
-pub mod OutcomeLemmas
 pub mod WordsLemmas

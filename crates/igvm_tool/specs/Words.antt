@@ -1,22 +1,31 @@
--- Which words ask for which job.
+-- Which words ask for which job: docs/PROGRAM.md.
 use Rattle.std.specs.Prelude.{ℕ, ◌^◌, List, [], ◌∷◌, Bool, true, false, not, length, nat_lt, ◌==◌, ◌&&◌, ◌||◌, codes, if◌then◌else◌, Option, Some, None}
 use Rattle.std.specs.Option.{option_map}
 use Rattle.std.specs.List.{list_all}
 use Rattle.std.specs.Char.{is_ascii_digit}
 use Rattle.std.specs.Str.Parse.{digits_value}
+use Rattle.igvm_headers.specs.declared.options.Options.{Options}
 use Rattle.igvm_headers.specs.declared.platform_kind.PlatformKind.{PlatformKind}
 use Rattle.igvm_headers.specs.declared.platform_kind.PlatformKind.TheVariants.{SevSnp, Tdx}
 
 -- the platform that is asked for: the first of a kind, or the one of a number
-pub data Wanted : Type 0 where
-  First : (kind : PlatformKind) → Wanted
-  Numbered : (number : ℕ) → Wanted
+pub data PlatformChoice : Type 0 where
+  First : (kind : PlatformKind) → PlatformChoice
+  Numbered : (number : ℕ) → PlatformChoice
+
+-- what a measurement is asked for
+pub record MeasureWords : Type 0 where
+  pub file : List ℕ
+  pub wanted : PlatformChoice
+  pub options : Options
 
 -- what the program is asked to do
 pub data Job : Type 0 where
   Build : (list target : List ℕ) → Job
   Print : (file : List ℕ) → Job
-  Measure : (file : List ℕ) (wanted : Wanted) → Job
+  Measure : (words : MeasureWords) → Job
+
+-- ---- words
 
 -- two texts are one
 abbrev pub is_text : List ℕ → List ℕ → Bool
@@ -40,30 +49,53 @@ number_of word =
     if is_decimal word && nat_lt (digits_value 10 word) (2 ^ 32) then Some (digits_value 10 word) else None
 
 -- the platform that a word asks for
-unfoldable pub wanted_of : List ℕ → Option Wanted
-wanted_of word =
+unfoldable pub choice_of : List ℕ → Option PlatformChoice
+choice_of word =
     if is_text word (codes "snp") then Some (First SevSnp)
     else (if is_text word (codes "tdx") then Some (First Tdx) else option_map Numbered (number_of word))
 
--- `build LIST OUT`
-abbrev pub build_job : List ℕ → List ℕ → List ℕ → Option Job
-build_job command list target =
-    if is_text command (codes "build") && is_file_name list && is_file_name target
-    then Some (Build list target) else None
+-- whether a flag stands first, and the words after it
+abbrev pub after_flag : List ℕ → List (List ℕ) → Bool × List (List ℕ)
+after_flag flag [] = (false, [])
+after_flag flag (word ∷ words) = if is_text word flag then (true, words) else (false, word ∷ words)
 
--- `print FILE`
-abbrev pub print_job : List ℕ → List ℕ → Option Job
-print_job command file = if is_text command (codes "print") && is_file_name file then Some (Print file) else None
+-- ---- jobs
 
--- `measure FILE --platform P`
-abbrev pub measure_job : List ℕ → List ℕ → List ℕ → List ℕ → Option Job
-measure_job command file option platform =
-    if is_text command (codes "measure") && is_file_name file && is_text option (codes "--platform")
-    then option_map (Measure file) (wanted_of platform) else None
+-- `LIST OUT`
+abbrev pub build_job : List (List ℕ) → Option Job
+build_job (list ∷ target ∷ []) = if is_file_name list && is_file_name target then Some (Build list target) else None
+build_job _ = None
+
+-- `FILE`
+abbrev pub print_job : List (List ℕ) → Option Job
+print_job (file ∷ []) = if is_file_name file then Some (Print file) else None
+print_job _ = None
+
+-- whether pages are measured as zero pages, where no further word stands
+abbrev pub last_options : Bool × List (List ℕ) → Option Options
+last_options (native_zero, []) = Some (record { native_zero = native_zero })
+last_options (native_zero, _) = None
+
+-- `[--native-zero]`
+abbrev pub measure_options : List (List ℕ) → Option Options
+measure_options words = last_options (after_flag (codes "--native-zero") words)
+
+-- a file is measured, where a platform and options are asked for
+abbrev pub measured_as : List ℕ → Option PlatformChoice → Option Options → Option Job
+measured_as file (Some wanted) (Some options) = Some (Measure (record { file = file; wanted = wanted; options = options }))
+measured_as file _ _ = None
+
+-- `FILE --platform P`, and the options
+abbrev pub measure_job : List (List ℕ) → Option Job
+measure_job (file ∷ option ∷ platform ∷ tail) =
+    if is_file_name file && is_text option (codes "--platform")
+    then measured_as file (choice_of platform) (measure_options tail) else None
+measure_job _ = None
 
 -- the job that these words mean, if they mean one
 unfoldable pub job_of : List (List ℕ) → Option Job
-job_of (command ∷ file ∷ []) = print_job command file
-job_of (command ∷ list ∷ target ∷ []) = build_job command list target
-job_of (command ∷ file ∷ option ∷ platform ∷ []) = measure_job command file option platform
-job_of _ = None
+job_of [] = None
+job_of (command ∷ words) =
+    if is_text command (codes "build") then build_job words
+    else (if is_text command (codes "print") then print_job words
+    else (if is_text command (codes "measure") then measure_job words else None))

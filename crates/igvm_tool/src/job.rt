@@ -1,11 +1,12 @@
-//! Which job the words ask for.
-ghost use Rattle.std.specs.Prelude.{◌≡◌, ◌==◌};
+//! The job that the words ask for: docs/PROGRAM.md.
+ghost use Rattle.std.specs.Prelude.{◌≡◌};
 ghost use Rattle.std.specs.Option.{option_map};
-ghost use Rattle.igvm_tool.specs.Words.{job_of, is_text, is_file_name, build_job, print_job, measure_job};
-ghost use Rattle.igvm_tool.specs.JobView.{job_view};
+ghost use Rattle.igvm_tool.specs.Words.{job_of, is_file_name, build_job, print_job, measure_job, measure_options, after_flag};
+ghost use Rattle.igvm_tool.specs.JobView.{job_view, words_view};
 
-use crate::wanted::{Wanted, wanted_of};
+use crate::platform_choice::{PlatformChoice, choice_of};
 use crate::words::{Words, is_text};
+use igvm_headers::Options;
 
 /// What the program is asked to do.
 #[derive(Clone, Copy)]
@@ -14,54 +15,107 @@ pub enum Job<'a> {
     Build { list: &'a str, target: &'a str },
     /// `print FILE`
     Print { file: &'a str },
-    /// `measure FILE --platform P`
-    Measure { file: &'a str, wanted: Wanted },
+    /// `measure FILE --platform P [--native-zero]`
+    Measure(MeasureWords<'a>),
+}
+
+/// What a measurement is asked for.
+#[derive(Clone, Copy)]
+pub struct MeasureWords<'a> {
+    /// The image file's name.
+    pub file: &'a str,
+    /// The platform whose digest is wanted.
+    pub wanted: PlatformChoice,
+    pub options: Options,
 }
 
 /// The job that these words mean, if they mean one.
-#[tactic(auto, using(crate::proofs::JobLemmas::job_laws))]
+#[tactic(auto, unfolding(crate::specs::Words::job_of))]
 pub fn job_of(words: &Words) -> Option<Job<'_>>
     ensures { option_map job_view result ≡ job_of words.now }
 {
-    match words.len() {
-        2 => print_job(words.word(0), words.word(1)),
-        3 => build_job(words.word(0), words.word(1), words.word(2)),
-        4 => measure_job(words.word(0), words.word(1), words.word(2), words.word(3)),
-        _ => None,
+    let [command, rest @ ..] = words.as_slice() else {
+        return None;
+    };
+    let command = command.as_str();
+    if is_text(command, "build") {
+        return build_job(rest);
     }
+    if is_text(command, "print") {
+        return print_job(rest);
+    }
+    if is_text(command, "measure") {
+        return measure_job(rest);
+    }
+    None
 }
 
-/// `build LIST OUT`, word by word.
-fn build_job<'a>(command: &str, list: &'a str, target: &'a str) -> Option<Job<'a>>
-    ensures { option_map job_view result ≡ build_job command.now list.now target.now }
+/// `LIST OUT`
+fn build_job(words: &[String]) -> Option<Job<'_>>
+    ensures { option_map job_view result ≡ build_job (words_view words.now) }
 {
-    if is_text(command, "build") && is_file_name(list) && is_file_name(target) {
+    let [list, target] = words else {
+        return None;
+    };
+    let (list, target) = (list.as_str(), target.as_str());
+    if is_file_name(list) && is_file_name(target) {
         Some(Job::Build { list, target })
     } else {
         None
     }
 }
 
-/// `print FILE`, word by word.
-fn print_job<'a>(command: &str, file: &'a str) -> Option<Job<'a>>
-    ensures { option_map job_view result ≡ print_job command.now file.now }
+/// `FILE`
+fn print_job(words: &[String]) -> Option<Job<'_>>
+    ensures { option_map job_view result ≡ print_job (words_view words.now) }
 {
-    if is_text(command, "print") && is_file_name(file) {
-        Some(Job::Print { file })
-    } else {
-        None
+    match words {
+        [file] if is_file_name(file.as_str()) => Some(Job::Print {
+            file: file.as_str(),
+        }),
+        _ => None,
     }
 }
 
-/// `measure FILE --platform P`, word by word.
-fn measure_job<'a>(command: &str, file: &'a str, option: &str, platform: &str) -> Option<Job<'a>>
-    ensures { option_map job_view result ≡ measure_job command.now file.now option.now platform.now }
+/// `FILE --platform P`, and the options.
+fn measure_job(words: &[String]) -> Option<Job<'_>>
+    ensures { option_map job_view result ≡ measure_job (words_view words.now) }
 {
-    if !(is_text(command, "measure") && is_file_name(file) && is_text(option, "--platform")) {
+    let [file, option, platform, tail @ ..] = words else {
+        return None;
+    };
+    let file = file.as_str();
+    if !(is_file_name(file) && is_text(option.as_str(), "--platform")) {
         return None;
     }
-    let wanted = wanted_of(platform)?;
-    Some(Job::Measure { file, wanted })
+    let wanted = choice_of(platform.as_str())?;
+    let options = measure_options(tail)?;
+    Some(Job::Measure(MeasureWords {
+        file,
+        wanted,
+        options,
+    }))
+}
+
+/// `[--native-zero]`, and no further word.
+fn measure_options(words: &[String]) -> Option<Options>
+    ensures { result ≡ measure_options (words_view words.now) }
+{
+    match after_flag(words, "--native-zero") {
+        (native_zero, []) => Some(Options { native_zero }),
+        _ => None,
+    }
+}
+
+/// Whether this flag stands first, and the words after it.
+fn after_flag<'a>(words: &'a [String], flag: &str) -> (bool, &'a [String])
+    ensures flag { result.0 ≡ (after_flag flag.now (words_view words.now)).0 }
+    ensures rest { words_view result.1.now ≡ (after_flag flag.now (words_view words.now)).1 }
+{
+    match words {
+        [word, rest @ ..] if is_text(word.as_str(), flag) => (true, rest),
+        _ => (false, words),
+    }
 }
 
 /// A file's name is not empty and does not begin with `-`.

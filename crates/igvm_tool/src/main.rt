@@ -2,10 +2,12 @@
 #![tactic(auto)]
 
 mod building;
+mod image_file;
 mod job;
 mod laws;
+mod list_file;
 mod measuring;
-mod opening;
+mod platform_choice;
 mod printing;
 mod refusal;
 mod running;
@@ -13,7 +15,6 @@ mod status;
 #[cfg(test)]
 mod tests;
 mod texts;
-mod wanted;
 mod words;
 
 use igvm_headers::Memory;

@@ -1,10 +1,32 @@
-//! Why a job ends without being done.
+//! How a job ends: its text is put, or it is refused with a line.
 ghost use Rattle.std.specs.Prelude.{◌≡◌};
+ghost use Rattle.igvm_tool.specs.declared.refusal.Refusal.TheVariants as refusal;
 ghost use Rattle.igvm_tool.specs.Clauses.{IsPut};
-ghost use Rattle.igvm_tool.specs.Refusals.{status_of, limit_text, text_of, end_status, EndIsPut};
+ghost use Rattle.igvm_tool.specs.Refusals.{status_of, limit_text, text_of, ended_status, end_status};
+ghost use Rattle.igvm_tool.specs.Endings.{EndIsPut, PutsEnd};
 
 use crate::status::Status;
 use igvm_outside::{Sink, put_all};
+use std::alloc::AllocError;
+
+/// How a job ends whose text is put.
+#[derive(Clone, Copy)]
+pub enum Ended {
+    Done,
+    /// The image does not fit the host; its text says why not.
+    NotFit,
+}
+
+impl Ended {
+    fn status(self) -> Status
+        ensures { result ≡ ended_status self }
+    {
+        match self {
+            Ended::Done => Status::Done,
+            Ended::NotFit => Status::NotFit,
+        }
+    }
+}
 
 /// Why a job ends without being done.
 #[derive(Drop)]
@@ -53,6 +75,14 @@ impl LimitOf {
     }
 }
 
+impl From<AllocError> for Refusal {
+    ghost from_gives = { λ _ given. given ≡ refusal.Memory };
+
+    fn from(_error: AllocError) -> Refusal {
+        Refusal::Memory
+    }
+}
+
 impl Refusal {
     fn status(&self) -> Status
         ensures { result ≡ status_of self.now }
@@ -85,14 +115,12 @@ impl Refusal {
 
 /// The status of a job that ended so. A refusal's line is put; a failing error output changes no
 /// status.
-pub fn finish<E: Sink>(err: &mut E, end: &Result<(), Refusal>) -> Status
+pub fn finish<E: Sink>(err: &mut E, end: &Result<Ended, Refusal>) -> Status
     ensures status { result ≡ end_status end.now }
-    ensures text { EndIsPut end.now
-        (IsPut (E.bytes err.old) (E.bytes err.new) (E.faults err.old) (E.faults err.new))
-        (E.bytes err.new ≡ E.bytes err.old) }
+    ensures text { EndIsPut E.Sink end.now err.old err.new }
 {
     match end {
-        Ok(()) => Status::Done,
+        Ok(ended) => ended.status(),
         Err(refusal) => {
             put_text(err, refusal.text());
             refusal.status()
@@ -102,7 +130,17 @@ pub fn finish<E: Sink>(err: &mut E, end: &Result<(), Refusal>) -> Status
 
 /// Puts a text, or a front of it where the error output fails.
 pub fn put_text<E: Sink>(err: &mut E, text: &str)
-    ensures { IsPut (E.bytes err.old) (E.bytes err.new) (E.faults err.old) (E.faults err.new) text.now }
+    ensures { IsPut E.Sink text.now err.old err.new }
 {
     let _ = put_all(err, text.as_bytes());
+}
+
+/// Puts the text of a job that ends so.
+pub fn put_end<O: Sink>(out: &mut O, ended: Ended, text: &[u8]) -> Result<Ended, Refusal>
+    ensures { PutsEnd O.Sink ended text.now result out.old out.new }
+{
+    match put_all(out, text) {
+        Ok(()) => Ok(ended),
+        Err(_) => Err(Refusal::Output),
+    }
 }

@@ -1,14 +1,16 @@
 //! All that the program does, over any shelf and outputs.
-ghost use Rattle.std.specs.Prelude.{◌≡◌};
-ghost use Rattle.igvm_headers.specs.Causes.{Rose};
+ghost use Rattle.std.specs.Prelude.{Some};
 ghost use Rattle.igvm_tool.specs.Words.{job_of};
-ghost use Rattle.igvm_tool.specs.Clauses.{StatusIsTrue, UsageIsExact, OutputIsKept, ErrorTextIsPut, FilesAreKept, FaultsHaveCauses, ShelfRose, IsPut};
+ghost use Rattle.igvm_tool.specs.JobView.{job_view};
+ghost use Rattle.igvm_tool.specs.Jobs.{task_of};
+ghost use Rattle.igvm_tool.specs.Endings.{Ends};
+ghost use Rattle.igvm_tool.specs.Clauses.{KeepsPromises};
 
-use crate::building::build;
+use crate::building::build_file;
 use crate::job::{Job, job_of};
-use crate::measuring::measure;
-use crate::printing::print;
-use crate::refusal::put_text;
+use crate::measuring::put_digest;
+use crate::printing::put_listing;
+use crate::refusal::{Ended, Refusal, finish, put_text};
 use crate::status::Status;
 use crate::texts::USAGE;
 use crate::words::Words;
@@ -23,30 +25,34 @@ pub fn run<S: Shelf, O: Sink, E: Sink>(
     out: &mut O,
     err: &mut E,
 ) -> Status
-    ensures status { StatusIsTrue (S.told shelf.old) (S.given shelf.new) (job_of words.now) result }
-    ensures usage { UsageIsExact (job_of words.now) result shelf.old shelf.new out.old out.new }
-    ensures output { OutputIsKept (S.told shelf.old) (job_of words.now) result
-        (O.bytes out.old) (O.bytes out.new) (O.faults out.old) (O.faults out.new) }
-    ensures error { ErrorTextIsPut (S.told shelf.old) (S.given shelf.new) (job_of words.now) result
-        (IsPut (E.bytes err.old) (E.bytes err.new) (E.faults err.old) (E.faults err.new))
-        (E.bytes err.new ≡ E.bytes err.old)
-        (ShelfRose (S.told shelf.old) (job_of words.now) (S.read_faults shelf.old)
-        (S.read_faults shelf.new) (S.write_faults shelf.old) (S.write_faults shelf.new))
-        (Rose (O.faults out.old) (O.faults out.new)) }
-    ensures files { FilesAreKept (S.told shelf.old) (S.told shelf.new) (job_of words.now) result
-        (S.state shelf.old) (S.state shelf.new) }
-    ensures faults { FaultsHaveCauses (S.told shelf.old) (job_of words.now) result
-        (ShelfRose (S.told shelf.old) (job_of words.now) (S.read_faults shelf.old)
-        (S.read_faults shelf.new) (S.write_faults shelf.old) (S.write_faults shelf.new))
-        (Rose (O.faults out.old) (O.faults out.new)) }
+    ensures { KeepsPromises S.Shelf O.Sink E.Sink (job_of words.now) result
+        shelf.old shelf.new out.old out.new err.old err.new }
 {
     match job_of(words) {
-        Some(Job::Build { list, target }) => build(alloc, list, target, shelf, out, err),
-        Some(Job::Print { file }) => print(alloc, file, shelf, out, err),
-        Some(Job::Measure { file, wanted }) => measure(alloc, file, wanted, shelf, out, err),
+        Some(job) => {
+            let end = do_job(alloc, job, shelf, out);
+            finish(err, &end)
+        }
         None => {
             put_text(err, USAGE);
             Status::Usage
         }
+    }
+}
+
+/// Does a job.
+fn do_job<S: Shelf, O: Sink>(
+    alloc: Global,
+    job: Job<'_>,
+    shelf: &mut S,
+    out: &mut O,
+) -> Result<Ended, Refusal>
+    ensures { Ends S.Shelf O.Sink (task_of (Some (job_view job.entry))) result
+        shelf.old shelf.new out.old out.new }
+{
+    match job {
+        Job::Build { list, target } => build_file(alloc, list, target, shelf, out),
+        Job::Print { file } => put_listing(alloc, file, shelf, out),
+        Job::Measure(words) => put_digest(alloc, words, shelf, out),
     }
 }

@@ -1,6 +1,6 @@
 //! How a run of the program ends.
 ghost use Rattle.std.specs.Prelude.{◌≡◌};
-ghost use Rattle.igvm_tool.specs.Codes.{code_of};
+ghost use Rattle.igvm_tool.specs.ExitCodes.{code_of};
 
 /// The status of a run, from 0 on in this order.
 #[derive(Clone, Copy, Debug, PartialEq, Eq)]

@@ -5,6 +5,7 @@ mod faults;
 mod limits;
 mod listings;
 mod long_listings;
+mod native_zero;
 mod page_bytes;
 mod platforms;
 mod refused_files;

@@ -1,9 +1,9 @@
 //! The texts of docs/PROGRAM.md.
 ghost use Rattle.std.specs.Prelude.{◌≡◌, IfOk, string_bytes, length};
 ghost use Rattle.igvm_tool.specs.Texts.{rule_words, what_text, fault_text, no_platform_text, no_digest_text, digest_text, part_text, not_json_text, field_text, entry_text, built_text};
-ghost use Rattle.igvm_tool.specs.JobView.{wanted_view};
+ghost use Rattle.igvm_tool.specs.JobView.{choice_view};
 
-use crate::wanted::Wanted;
+use crate::platform_choice::PlatformChoice;
 use component_list::ListPart;
 use igvm_headers::{Digest, PlatformKind, ReadFault, ReadWhat, kind_name};
 use std::alloc::{AllocError, Global};
@@ -12,7 +12,7 @@ use std::alloc::{AllocError, Global};
 pub const USAGE: &str = "\
 usage: igvm build LIST OUT
        igvm print FILE
-       igvm measure FILE --platform P
+       igvm measure FILE --platform P [--native-zero]
 P is snp, tdx or a platform number
 ";
 
@@ -24,6 +24,9 @@ fn rule_words(what: ReadWhat) -> &'static str
         ReadWhat::TooShort => "too short",
         ReadWhat::Magic => "magic",
         ReadWhat::Version => "version",
+        ReadWhat::Aarch64 => "architecture aarch64",
+        ReadWhat::Architecture => "architecture",
+        ReadWhat::PageSize => "page size",
         ReadWhat::TotalSize => "total size",
         ReadWhat::Section => "section",
         ReadWhat::Checksum => "checksum",
@@ -69,15 +72,15 @@ pub fn fault_text(alloc: Global, fault: ReadFault) -> Result<String, AllocError>
 }
 
 /// The line that says which platform an image does not have.
-pub fn no_platform_text(alloc: Global, wanted: Wanted) -> Result<String, AllocError>
-    ensures { IfOk result (λ text. string_bytes text ≡ no_platform_text (wanted_view wanted)) }
+pub fn no_platform_text(alloc: Global, wanted: PlatformChoice) -> Result<String, AllocError>
+    ensures { IfOk result (λ text. string_bytes text ≡ no_platform_text (choice_view wanted)) }
 {
     match wanted {
-        Wanted::First(kind) => {
+        PlatformChoice::First(kind) => {
             let name = kind_name(kind);
             format!(in alloc; "igvm: no platform {name}\n")
         }
-        Wanted::Numbered(number) => format!(in alloc; "igvm: no platform {number}\n"),
+        PlatformChoice::Numbered(number) => format!(in alloc; "igvm: no platform {number}\n"),
     }
 }
 

@@ -1,6 +1,7 @@
 //! The words that the program was given.
+ghost use Rattle.igvm_tool.specs.JobView.{words_view};
 ghost use Rattle.igvm_tool.specs.Words.{is_text};
-ghost use Rattle.std.specs.Prelude.{◌≡◌, [], ◌∷◌, ◌++◌, length, ◌<◌, Some, ◌==◌, slice_get, OnOk, OnErr};
+ghost use Rattle.std.specs.Prelude.{◌≡◌, [], ◌∷◌, ◌++◌, OnOk, OnErr};
 
 use igvm_headers::Memory;
 use std::alloc::Global;
@@ -46,26 +47,11 @@ impl Words {
         }
     }
 
-    /// How many words there are.
-    pub fn len(&self) -> usize
-        ensures { result ≡ length self.now }
+    /// The words, lent.
+    pub fn as_slice(&self) -> &[String]
+        ensures { words_view result.now ≡ self.now }
     {
-        self.kept.len()
-    }
-
-    /// There is no word.
-    pub fn is_empty(&self) -> bool
-        ensures { result ≡ (length self.now == 0) }
-    {
-        self.kept.is_empty()
-    }
-
-    /// The word at a place, from 0 on.
-    pub fn word(&self, place: usize) -> &str
-        requires { place < length self.now }
-        ensures { slice_get self.now place ≡ Some result.now }
-    {
-        self.kept[place].as_str()
+        self.kept.as_slice()
     }
 }
 

@@ -7,12 +7,12 @@ use std::test::Fail;
 const USAGE: &str = "\
 usage: igvm build LIST OUT
        igvm print FILE
-       igvm measure FILE --platform P
+       igvm measure FILE --platform P [--native-zero]
 P is snp, tdx or a platform number
 ";
 
 /// Words that mean no job. The image would be accepted.
-static OTHERS: [&str; 35] = [
+static OTHERS: [&str; 42] = [
     "build",
     "build LIST",
     "build -x OUT",
@@ -36,6 +36,13 @@ static OTHERS: [&str; 35] = [
     "Measure FILE --platform snp",
     "measure FILE --platform snp snp",
     "measure FILE -platform snp",
+    "measure FILE --native-zero",
+    "measure --native-zero FILE --platform snp",
+    "measure FILE --native-zero --platform snp",
+    "measure FILE --platform snp --native-zero --native-zero",
+    "measure FILE --platform snp --native-zero 1",
+    "measure FILE --platform snp -native-zero",
+    "print FILE --native-zero",
     "print",
     "print FILE FILE",
     "print -FILE",
@@ -75,13 +82,15 @@ fn refuses_other_words(rt: HostRuntime) -> Result<(), Fail> {
 #[test]
 fn keeps_words(rt: HostRuntime) -> Result<(), Fail> {
     let mut words = Words::new(rt.alloc());
-    assert!(rt; words.is_empty());
+    assert!(rt; words.as_slice().is_empty());
     words.push("print")?;
     words.push("")?;
-    assert_eq!(rt; words.len(), 2);
-    assert_eq!(rt; words.word(0), "print");
-    assert_eq!(rt; words.word(1), "");
-    assert!(rt; !words.is_empty());
+    let [first, second] = words.as_slice() else {
+        assert!(rt; false, "two words");
+        return Ok(());
+    };
+    assert_eq!(rt; first.as_str(), "print");
+    assert_eq!(rt; second.as_str(), "");
     Ok(())
 }
 

@@ -1,0 +1,27 @@
+-- What the clauses of the top call ask of a job. They know no job by itself: a further one is a further task.
+use Rattle.std.specs.Prelude.{◌≡◌, ℕ, List, Option}
+use Rattle.igvm_outside.specs.Files.{Files}
+use Rattle.igvm_tool.specs.declared.status.Status.TheVariants as is
+use Rattle.igvm_tool.specs.Texts.{usage_text}
+use Rattle.igvm_tool.specs.Outcome.{Outcome, refused}
+
+-- what a job gives, and which files it may touch
+pub record Task : Type 1 where
+  -- what it gives over these files
+  pub outcome : Files → Outcome
+  -- what it can give whatever is told, where the file that was read last gave this many bytes
+  pub can_give : ℕ → Outcome → Type 0
+  -- a name that it may read, where the files are told, and where they are not
+  pub reads : Option Files → List ℕ → Type 0
+  -- a name that it may write
+  pub writes : List ℕ → Type 0
+
+-- what words are answered that mean no job
+abbrev pub no_task : Task
+no_task =
+    record {
+      outcome = λ files. refused is.Usage usage_text;
+      can_give = λ given outcome. outcome ≡ refused is.Usage usage_text;
+      reads = λ told name. ⊥;
+      writes = λ name. ⊥;
+    }

@@ -1,0 +1,120 @@
+//! The components of a list's file: its text is read whole, and then by docs/LIST.md.
+ghost use Rattle.std.specs.Prelude.{◌≡◌, ℕ, List, ◌≤◌, length, IfOk, IfErr, IfSome, OnOk};
+ghost use Rattle.std.specs.FinMap as map;
+ghost use Rattle.igvm_outside.specs.Files.{IsUnwritten};
+ghost use Rattle.igvm_outside.specs.ShelfCalls.{IsRead, OnlyReads};
+ghost use Rattle.igvm_tool.specs.BuildJob.{parts_outcome, text_outcome, list_outcome, list_limit, build_task};
+ghost use Rattle.igvm_tool.specs.ImageFiles.{file_limit};
+ghost use Rattle.igvm_tool.specs.ListRefusals.{IsOfList, IsOfExpansion};
+ghost use Rattle.igvm_tool.specs.Endings.{Stops};
+
+use crate::refusal::{LimitOf, Refusal};
+use crate::texts::{entry_text, field_text, not_json_text};
+use component_list::{ComponentList, ExpandRefusal, ListRefusal, expand, read_list};
+use igvm_outside::{ReadRefusal, Shelf, read_all, reads_compose};
+use std::alloc::{AllocError, Global};
+
+/// The most bytes that the text of a component list may have.
+const LIST_LIMIT: u64 = 16_777_216;
+
+/// The components of a list's file, or why there are none.
+pub fn read_parts<S: Shelf>(
+    alloc: Global,
+    list: &str,
+    shelf: &mut S,
+) -> Result<ComponentList, Refusal>
+    ensures parts { IfOk result (λ parts. IfSome (S.told shelf.old) (λ files. (target : List ℕ)
+        → list_outcome files target (map.get files list.now) ≡ parts_outcome target parts)) }
+    ensures given { OnOk result (S.given shelf.new ≤ file_limit) }
+    ensures refused { (target : List ℕ) → IfErr result (λ refusal.
+        Stops S.Shelf (build_task list.now target) refusal shelf.old shelf.new) }
+    ensures only_reads { OnlyReads S.Shelf shelf.old shelf.new }
+    ensures unwritten { IsUnwritten (S.state shelf.new) }
+{
+    // A law: nothing runs.
+    reads_compose::<S>();
+    let text = read_text(alloc, list, shelf)?;
+    text_parts(alloc, text.as_slice(), shelf)
+}
+
+/// The text of a list's file, or why there is none.
+fn read_text<S: Shelf>(alloc: Global, list: &str, shelf: &mut S) -> Result<Vec<u8>, Refusal>
+    ensures read { IfOk result (λ bytes.
+        IsRead S.Shelf list.now list_limit bytes.items shelf.old shelf.new) }
+    ensures refused { (target : List ℕ) → IfErr result (λ refusal.
+        Stops S.Shelf (build_task list.now target) refusal shelf.old shelf.new) }
+    ensures only_reads { OnlyReads S.Shelf shelf.old shelf.new }
+    ensures unwritten { IsUnwritten (S.state shelf.new) }
+{
+    match read_all(alloc, shelf, list, LIST_LIMIT) {
+        Ok(bytes) => Ok(bytes),
+        Err(ReadRefusal::TooLong) => Err(Refusal::Limit(LimitOf::List)),
+        Err(ReadRefusal::Failed) => Err(Refusal::Shelf),
+        Err(ReadRefusal::Memory) => Err(Refusal::Memory),
+    }
+}
+
+/// The components of a list's text, which was read before, or why there are none.
+#[tactic(auto, unfolding(crate::specs::BuildJob::text_outcome))]
+fn text_parts<S: Shelf>(
+    alloc: Global,
+    bytes: &[u8],
+    shelf: &mut S,
+) -> Result<ComponentList, Refusal>
+    requires { length bytes.now ≤ list_limit }
+    ensures parts { IfOk result (λ parts. IfSome (S.told shelf.old) (λ files. (target : List ℕ)
+        → text_outcome files target bytes.now ≡ parts_outcome target parts)) }
+    ensures given { S.given shelf.old ≤ file_limit
+        → OnOk result (S.given shelf.new ≤ file_limit) }
+    ensures refused { (list target : List ℕ) (before : S)
+        → IsRead S.Shelf list list_limit bytes.now before shelf.old
+        → IfErr result (λ refusal.
+        Stops S.Shelf (build_task list target) refusal before shelf.new) }
+    ensures only_reads { OnlyReads S.Shelf shelf.old shelf.new }
+{
+    let source = match read_list(alloc, bytes) {
+        Ok(source) => source,
+        Err(refusal) => return Err(list_refusal(alloc, refusal)),
+    };
+    match expand(alloc, &source, shelf) {
+        Ok(parts) => Ok(parts),
+        Err(refusal) => Err(expand_refusal(alloc, refusal)),
+    }
+}
+
+/// What a list that is not read gives.
+fn list_refusal(alloc: Global, refusal: ListRefusal) -> Refusal
+    ensures { IsOfList refusal result }
+{
+    match refusal {
+        ListRefusal::NotJson => line_refusal(not_json_text(alloc)),
+        ListRefusal::Field { part, item } => line_refusal(field_text(alloc, part, item)),
+        ListRefusal::Memory => Refusal::Memory,
+    }
+}
+
+/// What a list that is not expanded gives.
+fn expand_refusal(alloc: Global, refusal: ExpandRefusal) -> Refusal
+    ensures { IsOfExpansion refusal result }
+{
+    match refusal {
+        ExpandRefusal::Read { .. } => Refusal::Shelf,
+        ExpandRefusal::TooLong { .. } => Refusal::Limit(LimitOf::Blob),
+        ExpandRefusal::TooLarge { .. } => Refusal::Limit(LimitOf::Data),
+        ExpandRefusal::Rule { part, item, what } => line_refusal(entry_text(
+            alloc, part, item, what,
+        )),
+        ExpandRefusal::Memory => Refusal::Memory,
+    }
+}
+
+/// A refusal with this line, where there was memory for it.
+fn line_refusal(line: Result<String, AllocError>) -> Refusal
+    ensures line { IfOk line (λ line. result ≡ Refusal.Json line) }
+    ensures memory { IfErr line (λ e. result ≡ Refusal.Memory) }
+{
+    match line {
+        Ok(line) => Refusal::Json(line),
+        Err(_) => Refusal::Memory,
+    }
+}
