@@ -1,0 +1,13 @@
+pub mod SortedTables
+pub mod SegmentFaults
+pub mod TableMembers
+pub mod HeaderSteps
+pub mod TouchedPages
+pub mod PageWalks
+pub mod FilledBytes
+pub mod FaultOrder
+pub mod AcceptedSegments
+pub mod AcceptedFiles
+pub mod ByteLaws
+pub mod PageLaws
+pub mod FirstHeaderLaws

@@ -1,0 +1,13 @@
+pub mod FileHeader
+pub mod Limits
+pub mod Segments
+pub mod GuestBytes
+pub mod Pages
+pub mod Faults
+pub mod SegmentTables
+pub mod SegmentFacts
+pub mod PageFacts
+pub mod FirstHeader
+pub mod AcceptedFile
+pub mod ViewInvariant
+pub use Rattle.igvm_headers.specs.Numbers

@@ -1,0 +1,11 @@
+pub mod Machine
+pub mod Commands
+pub mod Views
+pub mod GuestPages
+pub mod Chains
+pub mod MemMachine
+pub mod FailingCommands
+pub use Rattle.snp_chain.specs.Chain
+pub use Rattle.snp_chain.specs.Tagged
+pub use Rattle.tdx_chain.specs.Stream
+pub use Rattle.igvm_headers.specs.FaultCounts

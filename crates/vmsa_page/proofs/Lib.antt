@@ -1,0 +1,15 @@
+pub mod Booleans
+pub mod FilledLists
+pub mod LittleNumbers
+pub mod FieldsInPages
+pub mod OthersInPages
+pub mod PageLaws
+pub mod PagesRead
+pub mod PagesWritten
+pub mod AddressTexts
+pub mod KeyOrder
+pub mod PrintedForms
+pub mod PlainVmsas
+pub mod WrittenTokens
+pub mod FieldsInOrder
+pub mod OtherEntries
