@@ -4,8 +4,8 @@
     measure.py [--program PATH] [--mb N] [--times N]
 
 Two images are made, each for SEV-SNP and TDX: N megabytes of pages that all differ, and 100,000 pages at file offset
-0, so of zeros. A line says how fast each went, best of so many times, and how much memory `igvm` took at most beside
-the file's size.
+0, so of zeros. The second is measured with `--native-zero`, too. A line says how fast each went, best of so many times,
+and how much memory `igvm` took at most beside the file's size.
 """
 import os
 import struct
@@ -16,6 +16,7 @@ from timing import arguments, best, front, need, over_the_file, platform
 PAGE = 4096
 ZERO_PAGES = 100_000
 KINDS = ("snp", "tdx")
+OPTION = "--native-zero"
 
 
 def section(pages, distinct):
@@ -39,21 +40,31 @@ def write_image(path, pages, distinct):
     return total
 
 
-def measure(program, path, kind):
-    return [program, "measure", path, "--platform", kind]
+def measure(program, path, wanted):
+    """The words that measure an image for a platform, the option behind its kind where wanted."""
+    return [program, "measure", path, "--platform", *wanted.split()]
 
 
-def report(name, program, path, size, times):
-    """Prints the times of both kinds and of `openssl`, and gives those of the kinds."""
-    commands = [measure(program, path, kind) for kind in KINDS] + [["openssl", "dgst", "-sha384", path]]
+def report(name, program, path, size, times, wanted):
+    """Prints the times of each platform and of `openssl`, all in turn, and gives those of the platforms."""
+    commands = [measure(program, path, one) for one in wanted] + [["openssl", "dgst", "-sha384", path]]
     *ours, openssl = best([(words, os.devnull) for words in commands], times)
     print(f"{name}: {size / 1e6:.1f} MB")
-    for kind, seconds in zip(KINDS, ours):
-        memory = over_the_file(measure(program, path, kind), os.devnull, size)
-        print(f"  igvm measure {kind}  {seconds:8.3f} s  {size / seconds / 1e6:8.1f} MB/s  "
+    for one, seconds in zip(wanted, ours):
+        memory = over_the_file(measure(program, path, one), os.devnull, size)
+        print(f"  igvm measure {one:<17}  {seconds:8.3f} s  {size / seconds / 1e6:8.1f} MB/s  "
               f"openssl / igvm {openssl / seconds:6.2f}  peak memory: {memory}")
-    print(f"  openssl sha384    {openssl:8.3f} s  {size / openssl / 1e6:8.1f} MB/s")
-    return ours
+    print(f"  {'openssl sha384':<30}  {openssl:8.3f} s  {size / openssl / 1e6:8.1f} MB/s")
+    return dict(zip(wanted, ours))
+
+
+def report_zeros(seconds):
+    """Prints the pages a second of each platform, and what the option takes beside none."""
+    for wanted, taken in seconds.items():
+        print(f"  {wanted}: {ZERO_PAGES / taken:,.0f} pages a second")
+    for kind in KINDS:
+        ratio = seconds[kind] / seconds[f"{kind} {OPTION}"]
+        print(f"  {kind} without the option / with it {ratio:6.2f}")
 
 
 def main():
@@ -66,11 +77,10 @@ def main():
     with tempfile.TemporaryDirectory() as folder:
         path = os.path.join(folder, "image.igvm")
         size = write_image(path, options.mb * 1_000_000 // PAGE, True)
-        report("distinct pages", options.program, path, size, options.times)
+        report("distinct pages", options.program, path, size, options.times, KINDS)
         size = write_image(path, ZERO_PAGES, False)
-        ours = report("pages of zeros", options.program, path, size, options.times)
-        for kind, seconds in zip(KINDS, ours):
-            print(f"  {kind}: {ZERO_PAGES / seconds:,.0f} pages a second")
+        wanted = [f"{kind}{option}" for kind in KINDS for option in ("", f" {OPTION}")]
+        report_zeros(report("pages of zeros", options.program, path, size, options.times, wanted))
 
 
 if __name__ == "__main__":

@@ -1,12 +1,15 @@
 """What the program answers to a command on an image, by docs/PROGRAM.md and the plain reader.
 
-A command is `print`, or `measure` and the word P of `--platform P`, as in "measure snp".
+A command is `print`, or `measure` and the word P of `--platform P`, with the option behind it or without, as in
+"measure snp" and "measure 0 --native-zero".
 """
 import digests
 from listing import PLATFORM_KINDS, listing
 from records import platforms
 
-COMMANDS = ("print", "measure snp", "measure tdx", "measure 0", "measure 1", "measure 2", "measure 3")
+WANTED = ("snp", "tdx", "0", "1", "2", "3")
+OPTION = "--native-zero"
+COMMANDS = ("print", *(f"measure {wanted}" for wanted in WANTED), *(f"measure {wanted} {OPTION}" for wanted in WANTED))
 
 
 def words(command, path):
@@ -23,11 +26,11 @@ def platform(image, wanted):
     return found[int(wanted)] if int(wanted) < len(found) else None
 
 
-def measured(image, wanted):
+def measured(image, wanted, native_zero):
     one = platform(image, wanted)
     if one is None:
         return 6, "", f"igvm: no platform {wanted}\n"
-    digest = digests.digest(image, one)
+    digest = digests.digest(image, one, native_zero)
     if digest is None:
         return 6, "", f"igvm: no digest for {PLATFORM_KINDS[one.kind]}\n"
     return 0, digest.hex() + "\n", ""
@@ -40,4 +43,5 @@ def answer(command, image, fault):
         return 1, "", f"igvm: file refused at {at}: {text}\n"
     if command == "print":
         return 0, listing(image), ""
-    return measured(image, command.split()[1])
+    _, wanted, *options = command.split()
+    return measured(image, wanted, options == [OPTION])

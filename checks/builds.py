@@ -4,10 +4,11 @@
     builds.py                      the comparison
     builds.py --write NUMBER FILE  writes the list of that number to FILE and runs nothing
 
-The lists are random ones, random ones of a wrong form or with a broken text, and some at the edge of a limit; they are
-the same in each run. Each is built in a folder with the files that they name. Status, output, error and the image are
-compared with components.py; an image is then listed, and measured for each platform, and that is compared with
-answers.py. Ends with 77 where the program isn't built.
+The lists are random ones of either version, random ones of a wrong form or with a broken text, some at the edge of a
+limit, and some that spell their version; they are the same in each run. Each is built in a folder with the files that
+they name. Status, output, error and the image are compared with components.py; an image is then listed, and measured
+for each platform with `--native-zero` and without, and that is compared with answers.py. Ends with 77 where the program
+isn't built.
 """
 import argparse
 import json
@@ -17,12 +18,14 @@ import sys
 import tempfile
 
 import reader
-from answers import answer, words
-from components import DATA_MOST, FILE_MOST, LIST_MOST, built
-from lists import DEEPEST, DIRECTIVES
+import list_cases
+from answers import OPTION, answer, words
+from components import FILE_MOST, built
+from list_cases import HUGE
+from lists import DIRECTIVES
 from program import ROOT, Program, is_built, shared_memory
-from random_lists import AREA_MOST, FILES, TOP, FormMaker, ListMaker, TextMaker
-from records import LARGE, PAGE, platforms
+from random_lists import FILES, FormMaker, ListMaker, TextMaker
+from records import FIXED_SIZES, LARGE, fixed, platforms
 
 LISTS, FORMS, TEXTS, SEED = 400, 300, 200, 20240229
 SHOWN = 10                          # differences that are printed
@@ -33,99 +36,17 @@ OUTCOMES = (
     *(f"rule {text}" for text in RULES),
     *(f"form of {part}" for part in ("top", "platforms", "policies", "directives")), "no JSON",
     *(f"limit {what}" for what in ("list", "blob", "data", "image")), "shelf", "shared contents",
-    *(f"built {do}" for do in DIRECTIVES),
+    *(f"built version {version}" for version in FIXED_SIZES), *(f"built {do}" for do in DIRECTIVES),
 )
-HUGE = "huge"                       # a file of one byte more than is read; it takes no room on the disk
-ONE = {"kind": "snp", "mask": 1}
-
-
-# Lists at the edge of a limit
-
-def area(index, size=PAGE, **others):
-    return {"do": "area", "index": index, "bytes": size, **others}
-
-
-def pages(gpa, count, do="zero", **others):
-    return {"do": do, "mask": 1, "gpa": hex(gpa), "count": count, **others}
-
-
-def insert(gpa, index):
-    """An insert that counts on no platform, so that no digest has its pages."""
-    return {"do": "insert", "mask": 2, "gpa": hex(gpa), "area": index}
-
-
-def named(gpa, name, **others):
-    return {"do": "pages", "mask": 1, "gpa": hex(gpa), "file": name, **others}
-
-
-def edges():
-    """The directives behind one platform."""
-    full = area(0, AREA_MOST)
-    yield [area(index) for index in range(256)]
-    yield [area(index) for index in range(257)]
-    yield [area(7), area(8), area(7, 5)]
-    yield [area(0), area(1, PAGE + 1, file="missing"), insert(0, 1)]
-    yield [area(0), insert(0x800, 5), insert(0, 1)]
-    yield [area(0), insert(0, 1), area(1)]
-    yield [pages(0, 8192, large=True), pages(0, 1)]
-    yield [pages(0, 8193, large=True)]
-    yield [pages(0, 8191, large=True), pages(0, 512), named(0, "empty"), named(0, "byte")]
-    yield [full] + [insert(0, 0)] * 256 + [area(1)]
-    yield [full] + [insert(0, 0)] * 256 + [pages(0, 1)]
-    yield [full, insert(2 ** 64 - AREA_MOST, 0)]
-    yield [full, insert(2 ** 64 - AREA_MOST + PAGE, 0)]
-    for count in (0, 524288, 524289):
-        yield [pages(0, count, large=True)]
-    for vp in (65535, 65536):
-        yield [{"do": "context", "mask": 1, "gpa": "0x0", "vp": vp}]
-    yield [pages(2 ** 64 - 3 * PAGE, 3)]
-    yield [pages(2 ** 64 - 3 * PAGE, 4)]
-    yield [pages(2 ** 64 - 1, 1)]
-    yield [named(2 ** 64 - PAGE, "page"), named(2 ** 64 - PAGE, "page and one")]
-    yield [named(2 ** 64 - 1, "empty")]
-    yield [named(2 ** 64 - LARGE, "byte", large=True), named(2 ** 64 - LARGE, "large", large=True)]
-    yield [named(0, "byte", kind="cpuid", large=True)]
-    yield [area(0, 0, file="empty")]
-    yield [area(0, 0, file="byte")]
-    yield [area(0, DATA_MOST, file="byte")]
-    yield [area(0, TOP, file="byte")]
-    yield [area(0, AREA_MOST, file="byte"), area(1, DATA_MOST - AREA_MOST + PAGE, file="byte")]
-    yield [named(0, HUGE), named(0, "missing")]
-    yield [area(index, AREA_MOST, file=name) for index, name in enumerate(("byte", "same byte", "short") * 4)]
-    yield [area(index, AREA_MOST, file=f"byte {index}") for index in range(8)]
-    yield [named(0, "missing"), area(0, 1), {"do": "required", "mask": 1, "gpa": "0x0", "bytes": 0, "flags": TOP}]
-    yield [area(0, 1), named(0, "missing")]
-    yield [named(0, name) for name in FILES] + [{"do": "context", "mask": 1, "gpa": "0x0", "vp": 65535, "file": "page"}]
-    yield [{"do": "context", "mask": 1, "gpa": "0x0", "vp": 0, "file": "page and one"}]
-
-
-def edge_texts():
-    """Texts at the edge of what is JSON, or of how long it may be."""
-    least = json.dumps({"platforms": [ONE], "directives": []}).encode()
-    yield from (b"", b"[", b"[]", b"{}", b"null", b'"a"', least + b"\n", least + b"x", b"\xEF\xBB\xBF" + least)
-    yield least.ljust(LIST_MOST)
-    yield least.ljust(LIST_MOST + 1)
-    yield b"[".ljust(LIST_MOST + 1)
-    for masks in ((1, 2, 1), (1, 3), (1, 0), ()):
-        yield json.dumps({"platforms": [{**ONE, "mask": mask} for mask in masks], "directives": [area(0)]}).encode()
-    for found in (b'"\\ud800"', b'"\\ud83d\\ude00"', b"1e400", b"-1e400", b"1e308", b'{"a":[1e999]}', b'"\t"', b"[1,]"):
-        yield b'{"platforms":%s,' % found + least[1:]
-    for deep in (DEEPEST - 1, DEEPEST):
-        yield b'{"platforms":%s,' % (b"[" * deep + b"]" * deep) + least[1:]
-    for key, value in (("vtl", 255), ("vtl", 256), ("version", 65535), ("version", 65536), ("mask", 1 << 31),
-                       ("mask", 1 << 32), ("shared_gpa", "0x" + 16 * "f"), ("shared_gpa", "0x" + 17 * "0")):
-        yield json.dumps({"platforms": [{**ONE, key: value}], "directives": []}).encode()
-    yield least[:-1] + b',"policies":[],"policies":null}'
-    yield least[:-1] + b',"policies":null,"policies":[]}'
-    yield b'{"directives":[],"platforms":[{"mask":0,"mask":1,"kind":5,"kind":"tdx"}]}'
 
 
 def texts():
     """(what it is, the list's text) of each case."""
-    for at, directives in enumerate(edges()):
-        yield f"edge {at}", json.dumps({"platforms": [ONE], "directives": directives}).encode()
-    for at, text in enumerate(edge_texts()):
-        yield f"edge text {at}", text
+    tables = {"edge": list_cases.edge_lists(), "version": (text for text, _ in list_cases.versions()),
+              "edge text": list_cases.edge_texts()}
+    for name, table in tables.items():
+        for at, text in enumerate(table):
+            yield f"{name} {at}", text
     for at in range(LISTS):
         chance = random.Random(SEED + at)
         maker = ListMaker(chance, chance.choice((0, 0, 0.02, 0.1)))
@@ -134,6 +55,17 @@ def texts():
         for at in range(count):
             maker = kind(random.Random(SEED + at))
             yield f"{kind.__name__} {at}", maker.text(maker.whole())
+
+
+def wrong_versions():
+    """Where the plain builder answers otherwise than the table."""
+    for text, known in list_cases.versions():
+        want = (7, "", f"igvm: json refused{known}\n", None)
+        if isinstance(known, bytes):
+            want = 0, f"built {len(known)} bytes\n", "", known
+        got = built(text, read)
+        if got != want:
+            yield f"{text}: components.py answers {got}, the table {want}"
 
 
 # The runs
@@ -204,7 +136,8 @@ class Bench:
         if fault is not None:
             yield f"the plain reader refuses the image: {fault}"
         write("image", image)
-        for command in ("print", *(f"measure {number}" for number in range(len(platforms(image))))):
+        measuring = [f"measure {number}" for number in range(len(platforms(image)))]
+        for command in ("print", *measuring, *(f"{measure} {OPTION}" for measure in measuring)):
             if self.run(words(command, "image")) != answer(command, image, fault):
                 yield f"{command} of the image: the program answers otherwise than answers.py"
 
@@ -213,10 +146,10 @@ def outcomes(text, want, image):
     """What kind of answer this is, in the words of OUTCOMES."""
     status, _, error = want
     if status == 0:
-        directives = json.loads(text)["directives"]
+        directives, version = json.loads(text)["directives"], f"built version {fixed(image).version}"
         names = [entry["file"] for entry in directives if entry["do"] == "pages"]
         shared = {"shared contents"} if "page" in names and "two pages" in names else set()
-        return shared | {f"built {entry['do']}" for entry in directives}
+        return shared | {version, *(f"built {entry['do']}" for entry in directives)}
     if status == 4:
         return {"shelf"}
     if status == 8:
@@ -238,7 +171,7 @@ def write_list(number, path):
 
 
 def compare():
-    differing, count = [], 0
+    differing, count = list(wrong_versions()), 0
     with tempfile.TemporaryDirectory(dir=shared_memory()) as folder:
         os.chdir(folder)
         lay_out()
@@ -261,8 +194,9 @@ def main():
     if options.write:
         return write_list(int(options.write[0]), options.write[1])
     if not is_built():
-        print("builds: skipped, the program isn't built")
-        return 77
+        faults = list(wrong_versions())
+        print("\n".join(f"builds: {text}" for text in (*faults, "skipped, the program isn't built")))
+        return 1 if faults else 77
     return compare()
 
 

@@ -8,7 +8,7 @@ from collections import namedtuple
 
 import reader
 from lists import Refused, read_list
-from records import LARGE, PAGE, Header
+from records import FIXED_SIZES, LARGE, PAGE, Header
 
 LIST_MOST, FILE_MOST, DATA_MOST, IMAGE_MOST = 16777216, 536870912, 1073741824, 536870912
 PAGES_MOST, SPACE = 4194304, 1 << 64
@@ -148,10 +148,10 @@ def check_rules(parts):
         raise Ended(7, "json refused: platforms 0: no platform")
 
 
-def layout(parts):
+def layout(version, parts):
     """The file of these components: fixed header, section, each content once."""
     rows = [len(spelled(part, 0)) for part in parts]
-    end = 24 + sum(row + -row % 8 for row in rows)
+    end = FIXED_SIZES[version] + sum(row + -row % 8 for row in rows)
     places, contents = {}, []
     for part in parts:
         if part.data is not None and part.data not in places:
@@ -162,17 +162,19 @@ def layout(parts):
         raise Ended(8, "limit: image")
     headers = (spelled(part, 0 if part.data is None else places[part.data]) for part in parts)
     section = b"".join(header + bytes(-len(header) % 8) for header in headers)
-    front = b"IGVM" + struct.pack("<IIII", 1, 24, len(section), end)
-    return front + struct.pack("<I", zlib.crc32(front + bytes(4) + section)) + section + b"".join(contents)
+    front = b"IGVM" + struct.pack("<IIII", version, FIXED_SIZES[version], len(section), end)
+    machine = struct.pack("<II", 0, PAGE) if version == 2 else b""
+    checksum = zlib.crc32(front + bytes(4) + machine + section)
+    return front + struct.pack("<I", checksum) + machine + section + b"".join(contents)
 
 
 def image_of_list(text, read):
     if len(text) > LIST_MOST:
         raise Ended(8, "limit: list")
-    expansion = Expansion(read)
-    parts = [part for entry in read_list(text) for part in expansion.components(entry)]
+    source, expansion = read_list(text), Expansion(read)
+    parts = [part for entry in source.entries for part in expansion.components(entry)]
     check_rules(parts)
-    return layout(parts)
+    return layout(source.version, parts)
 
 
 def built(text, read):

@@ -9,21 +9,24 @@ import struct
 from records import PAGE, data_page, headers
 
 SNP, TDX = 2, 3                     # the platform types that have a digest
-PAGE_TYPES = {"normal": 1, "vmsa": 2, "unmeasured": 4, "secrets": 5, "cpuid": 6}
+PAGE_TYPES = {"normal": 1, "vmsa": 2, "zero": 3, "unmeasured": 4, "secrets": 5, "cpuid": 6}
 CHUNK = 256
 
 
-def kind_of(page):
+def kind_of(page, native_zero):
     """What a Page header's pages are to the launch."""
-    if page.data_type == 0:
-        return "unmeasured" if page.flags & 2 else "normal"
-    return "secrets" if page.data_type == 1 else "cpuid"
+    if page.data_type != 0:
+        return "secrets" if page.data_type == 1 else "cpuid"
+    if page.flags & 2:
+        return "unmeasured"
+    return "zero" if native_zero and page.offset == 0 else "normal"
 
 
-def places(image, mask):
+def places(image, mask, native_zero):
     """(header, kind, GPA, page) of each page that a header of the platform of this mask puts in its place.
 
-    The page is there for all but an Insert's, whose bytes the host makes.
+    The page is there for all but an Insert's, whose bytes the host makes. With `native_zero` a measured page of normal
+    data at file offset 0 is of the kind zero.
     """
     sizes = {}
     for header in headers(image):
@@ -34,7 +37,7 @@ def places(image, mask):
             continue
         if header.name == "Page":
             for k in range(512 if fields.flags & 1 else 1):
-                yield "Page", kind_of(fields), fields.gpa + PAGE * k, data_page(image, fields.offset, k)
+                yield "Page", kind_of(fields, native_zero), fields.gpa + PAGE * k, data_page(image, fields.offset, k)
         elif header.name == "Insert":
             for k in range(sizes[fields.index] // PAGE):
                 yield "Insert", "unmeasured", fields.gpa + PAGE * k, None
@@ -42,10 +45,10 @@ def places(image, mask):
             yield "Context", "vmsa", fields.gpa, data_page(image, fields.offset)
 
 
-def snp(image, mask):
+def snp(image, mask, native_zero):
     """The SEV-SNP launch digest: a fold over the PAGE_INFO records."""
     digest = bytes(48)
-    for _, kind, gpa, page in places(image, mask):
+    for _, kind, gpa, page in places(image, mask, native_zero):
         contents = hashlib.sha384(page).digest() if kind in ("normal", "vmsa") else bytes(48)
         info = digest + contents + struct.pack("<HBBIQ", 112, PAGE_TYPES[kind], 0, 0, gpa)
         digest = hashlib.sha384(info).digest()
@@ -58,9 +61,9 @@ def td_record(name, gpa):
 
 
 def tdx(image, mask):
-    """MRTD: one digest of all records joined."""
+    """MRTD: one digest of all records joined. The option has no effect on it."""
     stream = hashlib.sha384()
-    for header, kind, gpa, page in places(image, mask):
+    for header, kind, gpa, page in places(image, mask, native_zero=False):
         if header == "Context":
             continue
         stream.update(td_record(b"MEM.PAGE.ADD", gpa))
@@ -70,7 +73,8 @@ def tdx(image, mask):
     return stream.digest()
 
 
-def digest(image, platform):
-    """The digest for one of the image's platforms, or None where its kind has none."""
-    of_kind = {SNP: snp, TDX: tdx}.get(platform.kind)
-    return of_kind and of_kind(image, platform.mask)
+def digest(image, platform, native_zero):
+    """The digest for one of the image's platforms, with the option or without, or None where its kind has none."""
+    if platform.kind == SNP:
+        return snp(image, platform.mask, native_zero)
+    return tdx(image, platform.mask) if platform.kind == TDX else None

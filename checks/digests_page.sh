@@ -16,34 +16,56 @@ done
 
 folder=$(mktemp -d) || exit 1
 trap 'rm -rf -- "$folder"' EXIT
-cd -- "$folder" || exit 1
+mkdir -- "$folder/page" && cd -- "$folder" || exit 1
 
-# The lines of the page's blocks that begin with this fence.
-blocks() {
-    awk -v fence="$1" '/^```/ { inside = !inside; shown = inside && $0 == fence; next } shown' "$page"
-}
+# The page in parts. Part N has the commands of the block number N that is marked `sh`; what a block without a mark
+# behind them says that they print or, where they print nothing, what they write; and the words of `igvm measure ..` in
+# each sentence behind that which says what it prints. Blocks with another mark, as `text`, take no part.
+awk '
+    /^```/ { mark = inside ? "" : $0; inside = !inside; if (inside && mark == "```sh") part++; next }
+    inside && mark == "```sh" { print > ("page/" part ".commands") }
+    inside && mark == "```" && part { print > ("page/" part ".wanted") }
+    inside { next }
+    {
+        for (text = $0; match(text, /`igvm measure [^`]*`[^`.]* prints/); text = substr(text, RSTART + RLENGTH)) {
+            split(substr(text, RSTART, RLENGTH), quoted, "`")
+            print substr(quoted[2], 6) > ("page/" part ".measured")
+        }
+    }
+' "$page"
 
-# Blocks marked `sh` are commands; blocks without a mark are what they print, or what they keep in `contents`.
-# Blocks with another mark, as `text`, take no part.
-blocks '```sh' >commands
-blocks '```' >wanted
-{ bash -eu commands >printed && cat contents printed >found; } || { echo "digests page: a command fails"; exit 1; }
+fault() { echo "digests page: $1"; exit 1; }
 
-if ! diff wanted found; then
-    echo "digests page: the commands print something else than the page"
-    exit 1
-fi
+# The file that commands write last.
+last_written() { grep -oE '> *[[:alnum:]_.-]+' "$1" | tail -n 1 | tr -d '> '; }
+
+for part in $(seq "$(ls page/*.commands | wc -l)"); do
+    # Each part sees what those before it have set and written.
+    printf 'exec >page/%s.printed\n' "$part" && cat "page/$part.commands"
+done >commands
+bash -eu commands </dev/null || fault "a command fails"
+
+examples=0
+for wanted in page/*.wanted; do
+    found=${wanted%wanted}printed
+    [ -s "$found" ] || found=$(last_written "${wanted%wanted}commands")
+    diff "$wanted" "$found" || fault "the commands print something else than the page"
+done
+for measured in page/*.measured; do
+    # The digest is the last line of what stands before the sentence.
+    tail -n 1 "${measured%measured}wanted" | grep -qxE '[0-9a-f]{96}' ||
+        fault "no digest stands before: $(cat "$measured")"
+    examples=$((examples + $(wc -l <"$measured")))
+done
+[ "$examples" -ge 2 ] || fault "fewer than two examples are measured"
 if [ ! -x "$program" ]; then
     echo "digests page: the commands agree; not compared with the program, which isn't built"
     exit 0
 fi
-# The first line of 96 digits is what stands for the page's bytes; each example ends with a digest.
-grep -xE '[0-9a-f]{96}' wanted | tail -n +2 >digests
-measure() {
-    "$program" measure "$1" --platform "$2"
-}
-if ! { measure zero_page.igvm snp && measure tdx_page.igvm tdx; } | diff digests -; then
-    echo "digests page: the program prints another digest"
-    exit 1
-fi
-echo "digests page: the commands and the program agree"
+for measured in page/*.measured; do
+    while read -ra words; do
+        "$program" "${words[@]}" </dev/null | diff <(tail -n 1 "${measured%measured}wanted") - ||
+            fault "the program prints another digest: ${words[*]}"
+    done <"$measured"
+done
+echo "digests page: the commands and the program agree on $examples examples"

@@ -1,24 +1,28 @@
 #!/usr/bin/env -S python3 -B
-"""The example images, their listings, their table, the list and the program agree: examples.py [IMAGE..]
+"""The example images, their listings, their table, the lists and the program agree: examples.py [IMAGE..]
 
 The images of examples/ and their listings are those that make_images.py writes. The plain reader gives the same
-listings, and the digests that examples/README.md has for each image. The plain builder makes boot.igvm of boot.json.
+listings, and the digests that examples/README.md has for each image. The plain builder makes the image NAME.igvm of
+each list NAME.json, and boot.json in the other version of the format makes an image that only lies 8 bytes further.
 Then the program ($IGVM, or crates/igvm_tool/out/igvm_tool) is run by all commands over each image, and compared with
-the plain reader; so it is over further images that are named. It builds boot.json, too, and the commands that
+the plain reader; so it is over further images that are named. It builds the lists, too, and the commands that
 examples/README.md shows print what stands there. Ends with 77 where the program isn't built.
 """
+import json
 import os
 import subprocess
 import sys
 import tempfile
 
 import reader
-from answers import COMMANDS, answer, words
+from answers import COMMANDS, OPTION, answer, words
 from components import built
 from listing import listing
 from program import ROOT, Program, is_built
+from records import headers
 
 EXAMPLES = os.path.join(ROOT, "examples")
+LISTS = ("boot", "sparse")
 
 
 def read(*path):
@@ -52,20 +56,47 @@ def page_faults(name, image, text, table):
         return
     if listing(image) != text:
         yield f"{name}: the plain reader lists it otherwise"
-    for kind in ("snp", "tdx"):
-        status, output, error = answer(f"measure {kind}", image, fault)
-        want = f"| `{name}` | {kind} | `{output.strip()}` |"
-        if status == 0 and want not in table:
-            yield f"{name}: README.md has no row {want}"
+    rows = [line for line in table if line.startswith(f"| `{name}` | ") and line.endswith("` |")]
+    if rows != list(digest_rows(name, image)):
+        yield f"{name}: README.md has other rows of digests than {list(digest_rows(name, image))}"
 
 
-def list_faults():
-    """Where the plain builder makes another image of boot.json, whose files are counted from the root."""
-    status, _, error, image = built(read(EXAMPLES, "boot.json"), lambda name: read(ROOT, name))
+def digest_rows(name, image):
+    """An image's rows of the table: with the option only where it changes the digest."""
+    digests = {wanted: answer(f"measure {wanted}", image, None) for wanted in ("snp", f"snp {OPTION}", "tdx")}
+    for wanted, (status, output, _) in digests.items():
+        if status == 0 and (OPTION not in wanted or digests["snp"][1] != output):
+            yield f"| `{name}` | {wanted} | `{output.strip()}` |"
+
+
+def from_root(name):
+    """A file that a list names: names are counted from the root."""
+    return read(ROOT, name)
+
+
+def list_faults(name):
+    """Where the plain builder makes another image of a list."""
+    status, _, error, image = built(read(EXAMPLES, f"{name}.json"), from_root)
     if status != 0:
-        yield f"boot.json: the plain builder refuses it: {error.rstrip()}"
-    elif image != read(EXAMPLES, "boot.igvm"):
-        yield "boot.json: the plain builder makes another image than boot.igvm"
+        yield f"{name}.json: the plain builder refuses it: {error.rstrip()}"
+    elif image != read(EXAMPLES, f"{name}.igvm"):
+        yield f"{name}.json: the plain builder makes another image than {name}.igvm"
+
+
+def in_version_2():
+    """The text of boot.json with the key `version`."""
+    return json.dumps({**json.loads(read(EXAMPLES, "boot.json")), "version": 2}).encode()
+
+
+def version_faults(image):
+    """Where an image of boot.json in version 2 isn't boot.igvm with 8 bytes more before its section."""
+    first = read(EXAMPLES, "boot.igvm")
+    offsets = [header.fields.offset for header in headers(image) if header.name == "Page"]
+    if len(image) != 41648 or offsets != [*range(688, 688 + 9 * 4096, 4096), 0, 0]:
+        yield f"boot.json in version 2: the image has {len(image)} bytes, and its pages lie at {offsets}"
+    for wanted in ("snp", f"snp {OPTION}", "tdx", "2"):
+        if answer(f"measure {wanted}", image, reader.first_fault(image)) != answer(f"measure {wanted}", first, None):
+            yield f"boot.json in version 2: another answer than that of boot.igvm to measure {wanted}"
 
 
 def shown():
@@ -84,22 +115,35 @@ def shown():
 
 
 def shown_faults():
-    """Where the commands of README.md print something else than it shows, or build another image."""
+    """Where the commands of README.md print something else than it shows, or build other images in /tmp."""
     with tempfile.TemporaryDirectory() as folder:
-        program, count = Program(folder), 0
+        program = Program(folder)
         os.chdir(ROOT)
         for command, lines in shown():
-            count += 1
-            image = os.path.join(folder, "boot.igvm")
-            status, output, error = program.run([image if word == "/tmp/boot.igvm" else word for word in command])
+            status, output, error = program.run([word.replace("/tmp", folder) for word in command])
             got = output.splitlines()
             is_right = got == lines or "..." in lines and agree_around(got, lines)
             if (status, error) != (0, "") or not is_right:
                 yield f"README.md: {' '.join(command)}: the program answers {status}, {output}{error}"
-        if count < 3:
-            yield "README.md: fewer than three commands are shown"
-        elif read(image) != read(EXAMPLES, "boot.igvm"):
-            yield "boot.json: the program builds another image than boot.igvm"
+        for name in LISTS:
+            path = os.path.join(folder, f"{name}.igvm")
+            if not os.path.exists(path):
+                yield f"README.md: no command that is shown builds {name}.json"
+            elif read(path) != read(EXAMPLES, f"{name}.igvm"):
+                yield f"{name}.json: the program builds another image than {name}.igvm"
+
+
+def other_version_faults():
+    """Where the program builds boot.json in version 2 otherwise than the plain builder."""
+    with tempfile.TemporaryDirectory() as folder:
+        text, path = os.path.join(folder, "list"), os.path.join(folder, "image")
+        with open(text, "wb") as file:
+            file.write(in_version_2())
+        os.chdir(ROOT)
+        *want, image = built(in_version_2(), from_root)
+        got = Program(folder).run(["build", text, path])
+        if got != tuple(want) or read(path) != image:
+            yield f"boot.json in version 2: the program answers {got}, expected {tuple(want)} and the same image"
 
 
 def agree_around(got, lines):
@@ -131,8 +175,10 @@ def main():
     for name in names:
         text = written[name.replace(".igvm", ".txt")].decode()
         faults += page_faults(name, written[name], text, table)
-    faults += list_faults()
-    faults += [*program_faults(paths), *shown_faults()] if is_built() else []
+    for name in LISTS:
+        faults += list_faults(name)
+    faults += version_faults(built(in_version_2(), from_root)[3])
+    faults += [*program_faults(paths), *shown_faults(), *other_version_faults()] if is_built() else []
     for fault in faults:
         print(f"examples: {fault}")
     if not is_built() and not faults:

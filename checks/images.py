@@ -3,7 +3,7 @@ import struct
 import zlib
 
 import records
-from records import PAGE
+from records import FIXED_SIZES, PAGE
 
 
 def header(kind, content, length=None):
@@ -51,16 +51,27 @@ def row(parts, fill=b"\0"):
     return b"".join(part + fill * (-len(part) % 8) for part in parts)
 
 
+def fixed_header(version, offset, size, total, magic=b"IGVM", machine=(0, PAGE)):
+    """A fixed header whose checksum is 0; that of version 2 ends with the architecture and the page size."""
+    front = struct.pack("<4s5I", magic, version, offset, size, total, 0)
+    return front + struct.pack("<II", *machine) if version == 2 else front
+
+
+def stating(image, checksum):
+    """The image with this checksum."""
+    return image[:20] + struct.pack("<I", checksum) + image[24:]
+
+
 def mended(image):
     """The image with the checksum that fits, as far as it can have one."""
     if len(image) < 24:
         return image
-    return image[:20] + struct.pack("<I", zlib.crc32(records.covered(image))) + image[24:]
+    return stating(image, zlib.crc32(records.covered(image)))
 
 
-def image_of(section, data=b"", gap=b"", size=None, total=None, stated=None):
+def image_of(section, data=b"", gap=b"", size=None, total=None, version=1, machine=(0, PAGE)):
     """Fixed header, gap, section, data; section size and total size as they are unless named."""
-    whole = 24 + len(gap) + len(section) + len(data) if total is None else total
-    fixed = struct.pack("<4s5I", b"IGVM", 1, 24 + len(gap), len(section) if size is None else size, whole, 0)
-    image = mended(fixed + gap + section + data)
-    return image if stated is None else image[:20] + struct.pack("<I", stated) + image[24:]
+    offset = FIXED_SIZES[version] + len(gap)
+    whole = offset + len(section) + len(data) if total is None else total
+    fixed = fixed_header(version, offset, len(section) if size is None else size, whole, machine=machine)
+    return mended(fixed + gap + section + data)

@@ -4,7 +4,8 @@ from records import LARGE, PAGE, PARAMETERS, fixed, headers
 PLATFORM_KINDS = ("native", "vsm", "snp", "tdx", "sev", "sev_es")
 PAGE_KINDS = ("normal", "secrets", "cpuid", "cpuid_xf")
 
-WHOLE = "igvm version {f.version} section {f.offset} {f.size} total {f.total} headers {count}\n"
+WHOLE = "igvm version {f.version} section {f.offset} {f.size} total {f.total} headers {count}{machine}\n"
+MACHINES = {1: "", 2: " architecture x64 page 4096"}        # by the version, what ends the line for the whole
 # What a header's line says behind its number and its place: f are its fields, w the words that these stand for.
 TEXTS = {
     "Platform": "platform {number} mask {f.mask:08x} kind {w[kind]} vtl {f.vtl} version {f.version} "
@@ -40,8 +41,8 @@ def words(header):
 
 def listing(image):
     """The line for the whole, then one for each header; platforms are numbered among themselves."""
-    found, platforms = headers(image), 0
-    lines = [WHOLE.format(f=fixed(image), count=len(found))]
+    whole, found, platforms = fixed(image), headers(image), 0
+    lines = [WHOLE.format(f=whole, count=len(found), machine=MACHINES[whole.version])]
     for number, header in enumerate(found):
         text = TEXTS[header.name].format(f=header.fields, w=words(header), number=platforms,
                                          type=header.type, length=len(header.content))

@@ -12,6 +12,7 @@ BRACKETS = re.compile(r'"(?:[^"\\]|\\.)*"|[\[{]|[\]}]', re.DOTALL)
 NOTHING = object()                  # what a value of another form is, and a number written otherwise
 PARAMETER_KINDS = {name: kind for kind, name in PARAMETERS.items()}
 
+List = namedtuple("List", "version entries")
 Entry = namedtuple("Entry", "part item do values")
 
 
@@ -80,6 +81,10 @@ def value_of(data):
 
 def number(bits):
     return lambda value: value if type(value) is int and value < 1 << bits else NOTHING
+
+
+def list_version(value):
+    return value if type(value) is int and value in (1, 2) else NOTHING
 
 
 def count(value):
@@ -158,12 +163,22 @@ READERS = {"platforms": lambda value: ("platform", read_entry(value, PLATFORM)),
            "policies": lambda value: ("policy", read_entry(value, POLICY)), "directives": read_directive}
 
 
+TOP_KEYS = {"version", *READERS}
+
+
+def has_top_form(whole):
+    """The keys are known ones, those that must be there are, and each value has its form."""
+    if not isinstance(whole, dict) or whole.keys() - TOP_KEYS or not {"platforms", "directives"} <= whole.keys():
+        return False
+    if list_version(whole.get("version", 1)) is NOTHING:
+        return False
+    return all(isinstance(whole[part], list) for part in READERS if part in whole)
+
+
 def read_list(data):
-    """The entries of a list's text, in the order of their components; else Refused."""
+    """The version and the entries of a list's text, these in the order of their components; else Refused."""
     whole = value_of(data)
-    if not isinstance(whole, dict) or whole.keys() - READERS.keys() or not {"platforms", "directives"} <= whole.keys():
-        raise Refused(": top 0")
-    if not all(isinstance(part, list) for part in whole.values()):
+    if not has_top_form(whole):
         raise Refused(": top 0")
     entries = []
     for part, reader in READERS.items():
@@ -172,4 +187,4 @@ def read_list(data):
             if values is NOTHING:
                 raise Refused(f": {part} {item}")
             entries.append(Entry(part, item, do, values))
-    return entries
+    return List(whole.get("version", 1), entries)

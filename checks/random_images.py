@@ -1,8 +1,8 @@
-"""Random images, the same for each seed."""
+"""Random images, the same for each seed; half of them are of version 2."""
 import struct
 
 from images import header, image_of, mended
-from records import LARGE, PAGE, PARAMETERS
+from records import FIXED_SIZES, LARGE, PAGE, PARAMETERS
 
 TOP = 2 ** 32 - 1
 AREA_MOST = 67108864
@@ -23,6 +23,7 @@ class Maker:
         self.chance = chance
         # how often a value is a wrong one
         self.wrong = chance.choice((0, 0.01, 0.03, 0.1)) if wrong is None else wrong
+        self.version = chance.choice(tuple(FIXED_SIZES))
         self.areas, self.masks, self.total = [], [], 0
         self.makers = {0x001: self.platform, 0x101: self.policy, 0x301: self.area, 0x302: self.page,
                        0x303: self.insert, 0x304: self.context, 0x305: lambda: chance.randbytes(24),
@@ -49,7 +50,7 @@ class Maker:
     def offset(self, size):
         """Mostly a place with room for this many bytes, where the image is that long."""
         last = self.total - size
-        right = (0, last, self.chance.randint(1, last), 1, 24) if last > 24 else (0,)
+        right = (0, last, self.chance.randint(1, last), 1, 24, 32) if last > 32 else (0,)
         wrong = (last + 1 & TOP, self.total, self.total - 1, self.total + 1, 1, TOP, TOP - 4095)
         return self.pick(right, wrong)
 
@@ -131,20 +132,29 @@ class Maker:
         whole = b"".join(padded)
         return whole[:len(whole) - missing] + self.chance.randbytes(self.pick((0,), (1, 4, 7, 8, 12)))
 
+    def data(self, size):
+        """Mostly any bytes, else zeros."""
+        return bytes(size) if self.chance.random() < 0.2 else self.chance.randbytes(size)
+
+    def machine(self):
+        """The architecture and the page size of version 2."""
+        return self.pick((0,), (1, 2, TOP)), self.pick((PAGE,), (0, PAGE + 1, 65536))
+
     def image(self):
         chance, kinds = self.chance, self.kinds()
         gap = bytes(chance.choice((0, 0, 0, 3, 8, 17)))
         # File offsets are chosen before the section's length is known, so the total comes first, with room.
         room = chance.choice((0, 100, PAGE, 9000)) + (LARGE if chance.random() < 0.005 else 0)
-        self.total = 24 + len(gap) + sum(736 if kind == 0x30B else 48 for kind in kinds) + room
+        front = FIXED_SIZES[self.version]
+        self.total = front + len(gap) + sum(736 if kind == 0x30B else 48 for kind in kinds) + room
         section = self.section(kinds)
-        data = chance.randbytes(max(0, self.total - 24 - len(gap) - len(section)))
-        whole, size = 24 + len(gap) + len(section) + len(data), len(section)
-        total = self.pick((whole,), (whole - 1, whole + 1, 23, 0, TOP, whole // 2, 24))
+        data = self.data(max(0, self.total - front - len(gap) - len(section)))
+        whole, size = front + len(gap) + len(section) + len(data), len(section)
+        total = self.pick((whole,), (whole - 1, whole + 1, front - 1, 0, TOP, whole // 2, front, 24))
         size = self.pick((size,), (max(0, size - 1), size + 1, size + len(data), size + len(data) + 1, 0, TOP))
-        image = image_of(section, data, gap, size, total)
+        image = image_of(section, data, gap, size, total, self.version, self.machine())
         image += chance.randbytes(chance.choice((0, 0, 0, 0, 1, 50)))
-        return self.spoilt(image, 24 + len(section))
+        return self.spoilt(image, front + len(section))
 
     def spoilt(self, image, end):
         """Now and then one byte of the fixed header or the section is changed, or the section begins elsewhere."""
@@ -152,7 +162,8 @@ class Maker:
             place = self.chance.randrange(end)
             image = image[:place] + self.chance.randbytes(1) + image[place + 1:]
         if self.goes_wrong(0.3):
-            image = mended(image[:8] + struct.pack("<I", self.chance.choice((0, 23, 25, 32, TOP))) + image[12:])
+            offset = self.chance.choice((0, 23, 24, 25, 31, 32, 33, TOP))
+            image = mended(image[:8] + struct.pack("<I", offset) + image[12:])
         return image
 
 

@@ -1,4 +1,7 @@
-"""Random component lists, the same for each seed, and lists whose JSON or whose entries are wrong in one place."""
+"""Random component lists, the same for each seed, and lists whose JSON or whose entries are wrong in one place.
+
+Half of them are of version 2, and some of the others say that theirs is 1.
+"""
 import json
 import re
 
@@ -18,7 +21,8 @@ NO_FILES = ("missing", "folder", "folder/none", "nul\0", "x" * 300)
 # Values of no form that a key has
 WRONG_VALUES = (None, -1, 1.5, "", "0x", "0X1", "0x00000000000000001", "0xg", "12", "x", [], {}, 2 ** 8, 2 ** 16,
                 2 ** 32, 2 ** 64, True, False, 0, "snp ", "ff", "\u0661", [1])
-KEYS_OF_NONE = ("", "Mask", "mask ", "gpa", "vtl", "file", "do", "count", "large", "policy")
+KEYS_OF_NONE = ("", "Mask", "mask ", "gpa", "vtl", "file", "do", "count", "large", "policy", "Version", "versions")
+WRONG_VERSIONS = (0, 3, 2.0, 1.0, "2", "1", None, True, [2], {"version": 2}, -1, -2, 2 ** 32 + 2, 2 ** 64 + 1)
 
 
 class ListMaker:
@@ -117,6 +121,12 @@ class ListMaker:
             do = "area"
         return self.shuffled({"do": do, **self.makers[do]()})
 
+    def version(self):
+        """The key of a list's version, or nothing."""
+        if self.chance.random() < 0.5:
+            return {"version": self.pick((2,), WRONG_VERSIONS)}
+        return self.maybe({"version": self.pick((1,), WRONG_VERSIONS)})
+
     def shuffled(self, entry):
         items = list(entry.items())
         self.chance.shuffle(items)
@@ -125,6 +135,7 @@ class ListMaker:
     def whole(self):
         chance = self.chance
         value = {"platforms": [self.shuffled(self.platform()) for _ in range(self.pick((1, 2, 3), (0,)))]}
+        value.update(self.version())
         if chance.random() < 0.7:
             value["policies"] = [self.policy() for _ in range(chance.choice((0, 1, 2)))]
         value["directives"] = [self.directive() for _ in range(chance.choice((0, 3, 6, 12)))]
@@ -153,14 +164,15 @@ class FormMaker(ListMaker):
     def whole(self):
         value, chance = super().whole(), self.chance
         for _ in range(chance.choice((1, 1, 2))):
-            part = chance.choice([part for part, entries in value.items() if entries] + ["top"])
+            parts = [part for part, entries in value.items() if isinstance(entries, list) and entries]
+            part = chance.choice(parts + ["top"])
             if part == "top":
                 value = self.broken(value)
                 break
             item = chance.randrange(len(value[part]))
-            other = self.broken(value[part][item])
-            if chance.random() < 0.1:
-                other = chance.choice((None, 0, [], "entry", {}))
+            entry, other = value[part][item], chance.choice((None, 0, [], "entry", {}))
+            if isinstance(entry, dict) and entry and chance.random() >= 0.1:
+                other = self.broken(entry)
             value[part] = [*value[part][:item], other, *value[part][item + 1:]]
         return value
 

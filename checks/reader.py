@@ -3,9 +3,9 @@
 It shares no code with the toolset. Rules are judged in the page's order, each spelled as the page spells it, so
 that a difference from the program is a fault of one of the three.
 """
-from records import LARGE, LENGTHS, PAGE, covered, fixed, split
+from records import LARGE, LENGTHS, PAGE, covered, fixed, fixed_size, machine, split
 
-NAMES = ("TooShort", "Magic", "Version", "TotalSize", "Section", "Checksum",
+NAMES = ("TooShort", "Magic", "Version", "Aarch64", "Architecture", "PageSize", "TotalSize", "Section", "Checksum",
          "UnknownType", "Length", "Flags", "DataType", "PlatformType",
          "Order", "Mask", "Align", "AreaLimit", "AreaRepeated", "AreaUnknown", "AreaSize", "Wrap", "DataOutside",
          "TooManyPages", "HeaderCut", "NoPlatform")
@@ -55,18 +55,38 @@ class Before:
             self.areas[field.index] = field.size
 
 
-def file_faults(file):
-    """Rules 1 to 6."""
+def fixed_faults(file):
+    """Rules 1 to 3c."""
     if len(file) < 24:
         yield "TooShort", len(file), "too short"
     if file[:4] != b"IGVM":
         yield "Magic", 0, "magic"
-    version, offset, size, total, stated = fixed(file)
-    if version != 1:
+    if fixed(file).version not in (1, 2):
         yield "Version", 4, "version"
-    if total < 24 or total > len(file):
+    if fixed(file).version == 2:
+        yield from machine_faults(file)
+
+
+def machine_faults(file):
+    """Rules 3a to 3c, which look at version 2 alone."""
+    if len(file) < 32:
+        yield "TooShort", len(file), "too short"
+    architecture, page_size = machine(file)
+    if architecture == 1:
+        yield "Aarch64", 24, "architecture aarch64"
+    if architecture > 1:
+        yield "Architecture", 24, "architecture"
+    if page_size != 4096:
+        yield "PageSize", 28, "page size"
+
+
+def file_faults(file):
+    """Rules 1 to 6."""
+    yield from fixed_faults(file)
+    _, offset, size, total, stated = fixed(file)
+    if total < fixed_size(file) or total > len(file):
         yield "TotalSize", 16, "total size"
-    if offset < 24 or offset + size > total:
+    if offset < fixed_size(file) or offset + size > total:
         yield "Section", 8, "section"
     if stated != checksum(covered(file)):
         yield "Checksum", 20, "checksum"

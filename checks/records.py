@@ -6,6 +6,7 @@ import struct
 from collections import namedtuple
 
 PAGE, LARGE = 4096, 2097152
+FIXED_SIZES = {1: 24, 2: 32}        # by the version, how many bytes the fixed header has
 
 # type: (header, class)
 TYPES = {
@@ -64,10 +65,20 @@ def fixed(file):
     return Fixed._make(struct.unpack_from("<5I", file, 4))
 
 
+def fixed_size(file):
+    """How many bytes the fixed header has; 24, where no rule allows the version."""
+    return FIXED_SIZES.get(fixed(file).version, 24)
+
+
+def machine(file):
+    """The architecture and the page size, at the end of a fixed header of version 2."""
+    return struct.unpack_from("<II", file, 24)
+
+
 def covered(file):
     """The bytes that the checksum covers."""
     _, offset, size, _, _ = fixed(file)
-    return file[:20] + bytes(4) + file[offset:offset + size]
+    return file[:20] + bytes(4) + file[24:fixed_size(file)] + file[offset:offset + size]
 
 
 def split(file):

@@ -17,7 +17,9 @@ cp -- "$root"/examples/guest.* "$root"/examples/boot.igvm "$folder" && mkdir "$f
     cp -- "$root"/examples/boot.* "$folder/examples" && ln -s -- "$program" "$folder/igvm" && cd -- "$folder" || exit 1
 head -c 23 guest.igvm >short
 mkfifo pipe
-grep -F '| `guest.igvm` | snp |' "$root/examples/README.md" | grep -Eo '[0-9a-f]{96}' >digest
+row() { grep -F "| \`guest.igvm\` | $1 |" "$root/examples/README.md" | grep -Eo '[0-9a-f]{96}'; }
+row snp >digest
+row 'snp --native-zero' >zero_digest
 runs=0 faults=0
 
 fault() { echo "streams: $1"; faults=$((faults + 1)); }
@@ -33,7 +35,7 @@ ends() {
 }
 
 output='igvm: outside fault: output'
-for job in 'print guest.igvm' 'measure guest.igvm --platform tdx'; do
+for job in 'print guest.igvm' 'measure guest.igvm --platform tdx' 'measure guest.igvm --platform 0 --native-zero'; do
     ends 4 "$output" "./igvm $job >&-"
     ends 4 "$output" "./igvm $job >/dev/full"
     # A pipe whose reader has gone: the writer waits for that.
@@ -53,6 +55,7 @@ ends 0 '' './igvm print guest.igvm | cmp - guest.txt >&2'
 ends 0 '' 'timeout 10 bash -c "cat guest.igvm >pipe" & ./igvm print pipe | cmp - guest.txt >&2'
 ends 0 '' 'cat guest.igvm | ./igvm print /dev/stdin | cmp - guest.txt >&2'
 ends 0 '' 'cat guest.igvm | ./igvm measure /dev/stdin --platform snp | cmp - digest >&2'
+ends 0 '' 'cat guest.igvm | ./igvm measure /dev/stdin --platform snp --native-zero | cmp - zero_digest >&2'
 ends 1 'igvm: file refused at 0: too short' './igvm print /dev/null'
 
 build='./igvm build examples/boot.json'

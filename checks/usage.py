@@ -2,7 +2,8 @@
 """The program takes the words that docs/PROGRAM.md lists, and no others.
 
 Each row of words is run in a folder where a small image with three platforms lies under several names, and a list of
-one platform under several others. The usage text is read from the page. Ends with 77 where the program isn't built.
+one platform under several others. The usage text is read from the page; it has a line for each of FORMS. Ends with 77
+where the program isn't built.
 """
 import os
 import sys
@@ -12,6 +13,7 @@ import images
 from answers import answer
 from program import ROOT, Program, is_built
 
+FORMS = ("build LIST OUT", "print FILE", "measure FILE --platform P [--native-zero]")
 PLATFORMS = ((1, 0), (2, 3), (4, 2))           # mask and platform type: native, tdx, snp
 IMAGE = images.image_of(images.row([*(images.platform(*one) for one in PLATFORMS), images.page(0x1000, mask=6)]))
 NAMES = ("image", "-x", "measure", "print", "snp")      # the image's, all the same
@@ -30,6 +32,10 @@ TAKEN = (
     ("measure image --platform 4294967295", "measure 4294967295"),
     ("print measure", "print"), ("print ./-x", "print"), ("measure print --platform 1", "measure 1"),
     ("print snp", "print"),
+    *((f"measure image --platform {wanted} --native-zero", f"measure {wanted} --native-zero")
+      for wanted in ("snp", "tdx", "0", "1", "2", "3", "4294967295")),
+    ("measure measure --platform snp --native-zero", "measure snp --native-zero"),
+    ("measure ./-x --platform snp --native-zero", "measure snp --native-zero"),
 )
 # words that mean none
 REFUSED = (
@@ -47,13 +53,38 @@ REFUSED = (
     "measure image --platform +1", "measure image --platform 01", "measure image --platform 00",
     "measure image --platform 0x1", "measure image --platform 1.0", "measure image --platform 1a",
     "measure image --platform 4294967296", "measure image --platform 99999999999999999999999999",
-    "measure image --platform \u0661", "measure image --native-zero --platform snp",
+    "measure image --platform \u0661",
+    "measure image --native-zero", "measure image --native-zero --platform snp",
+    "measure --native-zero image --platform snp", "--native-zero measure image --platform snp",
+    "measure image --platform --native-zero", "measure image --platform --native-zero snp",
+    "measure --platform snp image --native-zero", "measure image snp --native-zero",
+    "measure --native-zero --platform snp", "measure image --platform snp --native-zero --native-zero",
+    "measure image --native-zero --platform snp --native-zero",
+    "measure image --platform snp --native-zero snp", "measure image --platform snp --native-zero true",
+    "measure image --platform snp --native-zero --platform snp", "measure image --platform snp --native-zero --",
+    "measure image --platform snp -- --native-zero", "measure image --platform snp tdx --native-zero",
+    "measure image --platform snp --native-zero=true", "measure image --platform snp --native-zero=",
+    "measure image --platform snp --native_zero", "measure image --platform snp --native-zeros",
+    "measure image --platform snp --native-zer", "measure image --platform snp --native",
+    "measure image --platform snp --Native-zero", "measure image --platform snp --NATIVE-ZERO",
+    "measure image --platform snp -native-zero", "measure image --platform snp native-zero",
+    "measure image --platform snp ---native-zero", "measure image --platform snp --zero-native",
+    "measure image --platform snp --no-native-zero", "measure image --platform snp -n",
+    "measure image --platform sev --native-zero", "measure image --platform 01 --native-zero",
+    "measure image --platform=snp --native-zero", "measure -x --platform snp --native-zero",
+    "print image --native-zero", "print --native-zero image", "print --native-zero", "--native-zero print image",
+    "build list new --native-zero", "build --native-zero list new", "build list --native-zero", "--native-zero",
 )
 EMPTY = (["print", ""], ["measure", "", "--platform", "snp"], ["measure", "image", "", "snp"],
          ["measure", "image", "--platform", ""], ["", "image"], ["print image"],
+         ["measure", "image", "--platform", "snp", ""], ["measure", "image", "--platform", "snp", "--native-zero", ""],
+         ["measure", "", "--platform", "snp", "--native-zero"], ["measure", "image", "--platform", "", "--native-zero"],
+         ["measure", "image", "--platform", "snp", "--native-zero "],
+         ["measure", "image", "--platform", "snp --native-zero"],
          ["build", "", "new"], ["build", "list", ""], ["build list", "new"],
          [b"build", b"list", b"ne\xffw"], [b"build", b"li\xffst", b"new"], [b"print", b"im\xffage"],
-         [b"measure", b"image", b"--platform", b"\xff"])
+         [b"measure", b"image", b"--platform", b"\xff"],
+         [b"measure", b"image", b"--platform", b"snp", b"--native-zero\xff"])
 
 
 def usage():
@@ -66,6 +97,13 @@ def usage():
     return "".join(line[indent:] + "\n" for line in lines[first:last])
 
 
+def wrong_lines(text):
+    """Where the usage text has other lines than those of FORMS and the last one."""
+    lines = [line.strip() for line in text.removeprefix("usage: ").splitlines()]
+    if lines[:-1] != [f"igvm {form}" for form in FORMS]:
+        yield f"the usage text of docs/PROGRAM.md has other lines than those of {FORMS}"
+
+
 def rows():
     """(words, status, output, error) of each run that writes no file."""
     for words, command in TAKEN:
@@ -73,7 +111,8 @@ def rows():
     for words in (*(words.split() for words in REFUSED), *EMPTY):
         yield words, (2, "", usage())
     yield ["print", "missing"], (4, "", "igvm: outside fault: shelf\n")
-    yield ["measure", ".", "--platform", "0"], (4, "", "igvm: outside fault: shelf\n")
+    for options in ([], ["--native-zero"]):
+        yield ["measure", ".", "--platform", "0", *options], (4, "", "igvm: outside fault: shelf\n")
     for list_name, out in (("missing", "new"), (".", "new"), ("list", "."), ("list", "missing/new")):
         yield ["build", list_name, out], (4, "", "igvm: outside fault: shelf\n")
     yield ["build", "image", "new"], (7, "", "igvm: json refused\n")
@@ -86,6 +125,7 @@ def differences(folder):
         for name in names:
             with open(name, "wb") as file:
                 file.write(content)
+    yield from wrong_lines(usage())
     program, before = Program(folder), set(os.listdir("."))
     for words, want in rows():
         got = program.run(words)

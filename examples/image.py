@@ -10,11 +10,12 @@ import zlib
 PAGE = 4096
 LARGE = 512 * PAGE
 SNP, TDX, NATIVE = 1, 2, 4          # the masks of the platforms
+FIXED_SIZES = {1: 24, 2: 32}        # by the format's version, the bytes of the fixed header
 KINDS = {SNP: 2, TDX: 3, NATIVE: 0}
 KIND_NAMES = {SNP: "snp", TDX: "tdx", NATIVE: "native"}
 NORMAL, SECRETS, CPUID, CPUID_XF = 0, 1, 2, 3
 PAGE_KINDS = ("normal", "secrets", "cpuid", "cpuid_xf")
-RECORDS = {"normal": 1, "vmsa": 2, "unmeasured": 4, "secrets": 5, "cpuid": 6}
+RECORDS = {"normal": 1, "vmsa": 2, "zero": 3, "unmeasured": 4, "secrets": 5, "cpuid": 6}
 PARAMETERS = {"vp_count": 0x307, "memory_map": 0x30C, "command_line": 0x30E}
 
 
@@ -25,10 +26,11 @@ def td_record(name, gpa):
 class Image:
     """Headers and data as they are declared, and the records that they give."""
 
-    def __init__(self):
+    def __init__(self, version=1):
+        self.version = version
         self.headers = []           # (type, content, text of its line, where its file offset stands, data)
         self.areas = {}             # index -> size
-        self.snp_records = []       # (page type, GPA, the page or nothing)
+        self.snp_records = []       # (name of the page type, GPA, the page, the file holds nothing of it)
         self.td_records = []
         self.platforms = 0
 
@@ -71,7 +73,7 @@ class Image:
         name = {NORMAL: "unmeasured" if unmeasured else "normal", SECRETS: "secrets"}.get(kind, "cpuid")
         whole = data or bytes(size)
         for at in range(0, size, PAGE):
-            self.place(mask, name, gpa + at, whole[at:at + PAGE])
+            self.place(mask, name, gpa + at, whole[at:at + PAGE], is_absent=not data)
 
     def insert(self, mask, gpa, index):
         self.header(0x303, struct.pack("<QII", gpa, mask, index), f"insert gpa {gpa:016x} mask {mask:08x} area {index}")
@@ -90,22 +92,23 @@ class Image:
                     f"id-block mask {mask:08x} author 0 ld {digest.hex()} family {names[0].hex()} "
                     f"image {names[1].hex()} version 1 svn 2 algorithms 1 0")
 
-    def place(self, mask, name, gpa, page=b""):
+    def place(self, mask, name, gpa, page=b"", is_absent=False):
         """The records of one page on the platforms of this mask."""
         if mask & SNP:
-            self.snp_records.append((RECORDS[name], gpa, page))
+            self.snp_records.append((name, gpa, page, is_absent))
         if mask & TDX:
             self.td_records.append(td_record(b"MEM.PAGE.ADD", gpa))
             for at in range(0, PAGE if name == "normal" else 0, 256):
                 self.td_records.append(td_record(b"MR.EXTEND", gpa + at) + page[at:at + 256])
 
-    def snp(self):
-        """The SEV-SNP launch digest of the records so far."""
+    def snp(self, native_zero=False):
+        """The SEV-SNP launch digest of the records so far, with the option `--native-zero` or without."""
         digest = bytes(48)
-        for kind, gpa, page in self.snp_records:
-            measured = kind in (RECORDS["normal"], RECORDS["vmsa"])
-            contents = hashlib.sha384(page).digest() if measured else bytes(48)
-            info = digest + contents + struct.pack("<HBBIQ", 112, kind, 0, 0, gpa)
+        for name, gpa, page, is_absent in self.snp_records:
+            if native_zero and name == "normal" and is_absent:
+                name = "zero"
+            contents = hashlib.sha384(page).digest() if name in ("normal", "vmsa") else bytes(48)
+            info = digest + contents + struct.pack("<HBBIQ", 112, RECORDS[name], 0, 0, gpa)
             digest = hashlib.sha384(info).digest()
         return digest
 
@@ -115,16 +118,24 @@ class Image:
 
     def spelled(self):
         """The file and its listing: fixed header, section, then the data in the order of their headers."""
+        start = FIXED_SIZES[self.version]
         size = sum(8 + (len(content) + 7) // 8 * 8 for _, content, _, _, _ in self.headers)
         section, body, lines = b"", b"", []
         for kind, content, text, offset_at, data in self.headers:
-            offset = 24 + size + len(body) if data else 0
+            offset = start + size + len(body) if data else 0
             if offset_at is not None:
                 content = content[:offset_at] + struct.pack("<I", offset) + content[offset_at + 4:]
-            lines.append(f"{len(lines)} at {24 + len(section)} {text.format(offset=offset)}\n")
+            lines.append(f"{len(lines)} at {start + len(section)} {text.format(offset=offset)}\n")
             body += data
             section += struct.pack("<II", kind, len(content)) + content + bytes(-len(content) % 8)
-        total = 24 + size + len(body)
-        front = b"IGVM" + struct.pack("<IIII", 1, 24, size, total)
-        file = front + struct.pack("<I", zlib.crc32(front + bytes(4) + section)) + section + body
-        return file, f"igvm version 1 section 24 {size} total {total} headers {len(lines)}\n" + "".join(lines)
+        total = start + size + len(body)
+        line = f"igvm version {self.version} section {start} {size} total {total} headers {len(lines)}"
+        if self.version == 2:
+            line += " architecture x64 page 4096"
+        return self.fixed(start, section, total) + section + body, f"{line}\n" + "".join(lines)
+
+    def fixed(self, start, section, total):
+        """The fixed header; that of version 2 ends with the architecture, X64, and the page size."""
+        front = b"IGVM" + struct.pack("<IIII", self.version, start, len(section), total)
+        machine = struct.pack("<II", 0, PAGE) if self.version == 2 else b""
+        return front + struct.pack("<I", zlib.crc32(front + bytes(4) + machine + section)) + machine

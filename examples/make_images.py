@@ -1,9 +1,9 @@
 #!/usr/bin/env -S python3 -B
-"""Writes the example images, their listings and the files that boot.json names, and prints the digests of each.
+"""Writes the example images, their listings and the files that the lists name, and prints the digests of each.
 
     make_images.py [FOLDER]      into this script's own folder where none is named
 
-What the images are is declared here; image.py spells them. The list boot.json was written by hand.
+What the images are is declared here; image.py spells them. The lists boot.json and sparse.json were written by hand.
 """
 import os
 import struct
@@ -94,8 +94,29 @@ def boot():
     return image
 
 
-IMAGES = {"one_page": one_page, "guest": guest, "boot": boot}
-LIST_FILES = {"boot.pages": boot_pages, "boot.vmsa": boot_vmsa}
+def sparse_pages():
+    """A page of code and a page of zeros that the file holds: what sparse.json has as pages."""
+    return pattern(9, PAGE) + bytes(PAGE)
+
+
+def sparse():
+    """Of version 2, and mostly of zeros that the file doesn't hold."""
+    image = Image(version=2)
+    image.platform(SNP)
+    image.platform(TDX)
+    held = sparse_pages()
+    image.page(SNP | TDX, 0x10000, held[:PAGE])
+    image.page(SNP | TDX, 0x11000, held[PAGE:])
+    for k in range(2):
+        image.page(SNP | TDX, 0x12000 + k * PAGE)
+    image.page(SNP | TDX, 0x14000, unmeasured=True)
+    image.page(SNP | TDX, 0x200000, large=True)
+    image.context(SNP, 0xFFFFFFFFF000, 0)
+    return image
+
+
+IMAGES = {"one_page": one_page, "guest": guest, "boot": boot, "sparse": sparse}
+LIST_FILES = {"boot.pages": boot_pages, "boot.vmsa": boot_vmsa, "sparse.pages": sparse_pages}
 
 
 def write(folder, name, content):
@@ -111,6 +132,7 @@ def main():
         write(folder, f"{name}.igvm", file)
         write(folder, f"{name}.txt", listing.encode("ascii"))
         print(f"{name}.igvm snp", image.snp().hex())
+        print(f"{name}.igvm snp --native-zero", image.snp(native_zero=True).hex())
         if image.platforms > 1:
             print(f"{name}.igvm tdx", image.tdx().hex())
     for name, make in LIST_FILES.items():
