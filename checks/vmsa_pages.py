@@ -3,6 +3,7 @@
 
     vmsa_pages.py                   the comparison
     vmsa_pages.py --write FOLDER    also writes what the program is given, and what it has to put
+    vmsa_pages.py --full N          with N pages of random bytes at every place, half a second each
 
 The reader was written from docs/VMSA.md alone, and is compared with known answers first. Pages are of random bytes, at
 every place, at many or at few, and some end early. Each goes to JSON and back, most texts also in another spelling and
@@ -18,7 +19,7 @@ import crate_program
 from lists import BYTE, NOTHING, SHORT, WORD, Refused, address, value_of
 
 CASES, PAGES, BROKEN, SEED = 52, 10, 4, 18      # pages of a case, and broken texts of each
-FULL = 8                                        # pages of random bytes at every place
+FULL = 8                                        # pages of random bytes at every place, unless it is told how many
 SIZE = 4096
 SEGMENTS = ("es", "cs", "ss", "ds", "fs", "gs", "gdtr", "ldtr", "idtr", "tr")
 NUMBERS = (("efer", 0x0D0), ("cr4", 0x148), ("cr3", 0x150), ("cr0", 0x158), ("dr7", 0x160), ("dr6", 0x168),
@@ -259,11 +260,11 @@ def joined(lines):
     return "\n".join(given).encode(), "\n".join(wanted) + "\n"
 
 
-def all_lines():
+def all_lines(full):
     """What the program is given and what it has to put, line by line, by the name of a case."""
     chance = random.Random(SEED)
     return {"known": KNOWN, **{f"random_{n}": [*random_lines(chance)] for n in range(CASES)},
-            **{f"full_{n}": both_ways(chance.randbytes(SIZE)) for n in range(FULL)}}
+            **{f"full_{n}": both_ways(chance.randbytes(SIZE)) for n in range(full)}}
 
 
 def faults_of(texts):
@@ -278,8 +279,10 @@ def faults_of(texts):
 def main():
     arguments = argparse.ArgumentParser(description="the crate vmsa_page and a plain reader on many pages and texts")
     arguments.add_argument("--write", metavar="FOLDER")
-    folder = arguments.parse_args().write
-    groups = all_lines()
+    arguments.add_argument("--full", metavar="N", type=int, default=FULL)
+    options = arguments.parse_args()
+    folder = options.write
+    groups = all_lines(options.full)
     texts = [line for lines in groups.values() for line in lines if not line[0].startswith("p ")]
     faults = [*faults_of(texts)]
     cases = {name: joined(lines) for name, lines in groups.items()}
@@ -289,7 +292,7 @@ def main():
     for line in lines:
         print(f"vmsa pages: {line}")
     if not status:
-        pages, accepted = CASES * PAGES + FULL, sum(len(wanted) == 2 * SIZE for _, wanted in texts)
+        pages, accepted = CASES * PAGES + options.full, sum(len(wanted) == 2 * SIZE for _, wanted in texts)
         print(f"vmsa pages: {pages} pages and {len(texts)} texts agree, {accepted} texts accepted")
     return status
 
