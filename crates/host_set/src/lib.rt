@@ -15,7 +15,7 @@ mod tests;
 mod values_json;
 
 pub use host::HostSet;
-pub use laws::first_bad_range;
+pub use laws::{covered_bytes, first_bad_range};
 pub use plan::{BadRange, MemoryPlan};
 pub use range::PlanRange;
 pub use reading::read_host;
