@@ -1,13 +1,10 @@
--- Two lists, and two components, are equal exactly where they are one, from the numbers of their headers up.
-use Rattle.std.proofs.Common.{◌≡◌, Bool, true, true≢false, refl, sym, subst, ℕ, List, rules, ◌&&◌, ◌==◌, Decides}
-use Rattle.std.specs.Cmp.{first_so, second_so, booleans_Decides}
+-- Two lists, and two components, are equal exactly where they are one, since headers are.
+use Rattle.std.proofs.Common.{◌≡◌, Bool, true, true≢false, refl, sym, subst, ℕ, List, ◌&&◌, ◌==◌, Decides}
+use Rattle.std.specs.Cmp.{first_so, second_so}
 use Rattle.std.specs.Cmp.Lexicographic.{bytes_decides}
 use Rattle.std.proofs.lemmas.Bool.Decides.{Decides-eqb}
 use Rattle.std.proofs.lemmas.Slice.Eq.{slice_eq-Decides}
-use Rattle.igvm_headers.specs.declared.page_kind.PageKind.{PageKind}
 use Rattle.igvm_headers.specs.declared.header.Header.{Header}
-use Rattle.igvm_headers.specs.declared.header.Header.TheVariants.{Platform, Policy, Area, Page, Insert, Param, Context, Required, ErrorRange, IdBlock, Carried}
-use Rattle.igvm_headers.specs.contracts.page_kind.PageKindPartialEq.TheImpl as kind_equality
 use Rattle.igvm_headers.specs.contracts.header.HeaderPartialEq.TheImpl as header_equality
 use Rattle.component_list.specs.declared.component.Component.{Component}
 use Rattle.component_list.specs.declared.component.Content.{Content}
@@ -27,26 +24,9 @@ both {s} {t} p q h = (p (first_so s t h), q (second_so s t h))
 number : (x y : ℕ) → (x == y) ≡ true → x ≡ y
 number x y = (Decides-eqb x y).0
 
-kind_same : (x y : PageKind) → (kind_equality.ghosts).eq x y ≡ true → x ≡ y
-kind_same x y h = search rules
-
--- headers of one variant field by field; those of two variants are not equal
-header_same : (x y : Header) → (header_equality.ghosts).eq x y ≡ true → x ≡ y
-header_same (Platform mask vtl kind version gpa) (Platform mask' vtl' kind' version' gpa') h = search rules
-header_same (Policy policy mask) (Policy policy' mask') h = search rules
-header_same (Area bytes area offset) (Area bytes' area' offset') h = search rules
-header_same (Page gpa mask offset large unmeasured kind) (Page gpa' mask' offset' large' unmeasured' kind') h =
-    let flags = both (booleans_Decides large large').0 (both (booleans_Decides unmeasured unmeasured').0 (kind_same kind kind')) in
-    let same = both (number gpa gpa') (both (number mask mask') (both (number offset offset') flags)) h in
-    cc
-header_same (Insert gpa mask area) (Insert gpa' mask' area') h = search rules
-header_same (Param kind area at) (Param kind' area' at') h = search rules
-header_same (Context gpa mask offset vp) (Context gpa' mask' offset' vp') h = search rules
-header_same (Required gpa mask bytes flags) (Required gpa' mask' bytes' flags') h = search rules
-header_same (ErrorRange gpa mask bytes) (ErrorRange gpa' mask' bytes') h = search rules
-header_same (IdBlock mask enabled ld family image version svn id author) (IdBlock mask' enabled' ld' family' image' version' svn' id' author') h = search rules
-header_same (Carried kind length) (Carried kind' length') h = search rules
-header_same x y h = absurd (true≢false (sym h))
+-- headers are equal exactly where they are one
+abbrev pub HeadersAreExact : Type 0
+HeadersAreExact = (x y : Header) → Decides ((header_equality.ghosts).eq x y) (x ≡ y)
 
 blob_same : (x y : List ℕ) → (blob_equality.ghosts).eq x y ≡ true → x ≡ y
 blob_same x y = (bytes_decides x y).0
@@ -57,23 +37,23 @@ content_same Nothing Nothing h = cc
 content_same Zero Zero h = cc
 content_same x y h = absurd (true≢false (sym h))
 
-component_same : (x y : Component) → (component_equality.ghosts).eq x y ≡ true → x ≡ y
-component_same x y h =
-    let same = both (header_same x.header y.header) (both (blob_same x.tail y.tail) (content_same x.content y.content)) h in
+component_same : HeadersAreExact → (x y : Component) → (component_equality.ghosts).eq x y ≡ true → x ≡ y
+component_same headers x y h =
+    let same = both (headers x.header y.header).0 (both (blob_same x.tail y.tail) (content_same x.content y.content)) h in
     λ i. record { header = same.0 i; tail = same.1.0 i; content = same.1.1 i }
 
-pub components_exact : (x y : Component) → Decides ((component_equality.ghosts).eq x y) (x ≡ y)
-components_exact x y = (component_same x y, λ same. subst (λ z. (component_equality.ghosts).eq x z ≡ true) same (laws-law.refl x))
+pub components_exact : HeadersAreExact → (x y : Component) → Decides ((component_equality.ghosts).eq x y) (x ≡ y)
+components_exact headers x y = (component_same headers x y, λ same. subst (λ z. (component_equality.ghosts).eq x z ≡ true) same (laws-law.refl x))
 
 -- lists of one version are as long, and each two components are one
-pub lists_exact : (x y : ImageParts) → Decides ((list_equality.ghosts).eq x y) (x ≡ y)
-lists_exact x y = (same, λ is. subst (λ z. (list_equality.ghosts).eq x z ≡ true) is (lists_laws.laws-law.refl x))
+pub lists_exact : HeadersAreExact → (x y : ImageParts) → Decides ((list_equality.ghosts).eq x y) (x ≡ y)
+lists_exact headers x y = (same, λ is. subst (λ z. (list_equality.ghosts).eq x z ≡ true) is (lists_laws.laws-law.refl x))
   where
     same : (list_equality.ghosts).eq x y ≡ true → x ≡ y
     same h =
-        let versions = both (number x.version y.version) ((slice_eq-Decides components_exact x.parts y.parts _ refl).0) h in
+        let versions = both (number x.version y.version) ((slice_eq-Decides (components_exact headers) x.parts y.parts _ refl).0) h in
         λ i. record { version = versions.0 i; parts = versions.1 i }
 
 -- so a test that says as much decides it too
-pub lists_decided : (x y : ImageParts) (test : Bool) → test ≡ (list_equality.ghosts).eq x y → Decides test (x ≡ y)
-lists_decided x y test same = subst (λ b. Decides b (x ≡ y)) (sym same) (lists_exact x y)
+pub lists_decided : HeadersAreExact → (x y : ImageParts) (test : Bool) → test ≡ (list_equality.ghosts).eq x y → Decides test (x ≡ y)
+lists_decided headers x y test same = subst (λ b. Decides b (x ≡ y)) (sym same) (lists_exact headers x y)

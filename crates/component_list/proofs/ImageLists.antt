@@ -34,24 +34,18 @@ use Rattle.component_list.specs.Lists.{component_fault, fault_behind, list_fault
 use Rattle.component_list.specs.Lists as lists
 use Rattle.component_list.specs.ImageList.{data_bytes, stored, content_of, component_of, components_in}
 use Rattle.component_list.proofs.SameRules.{seen_same, rules_at, inside_at_0}
-use Rattle.component_list.proofs.ReadHeaders.{read_is}
+use Rattle.component_list.proofs.ReadHeaders.{WhatIsRead, read_is}
 
 unknown_same : (h : Header) → is_unknown (with_offset 0 h) ≡ is_unknown h
 unknown_same (Area bytes area offset) = refl
-unknown_same (Page gpa mask offset large unmeasured kind) = refl
-unknown_same (Context gpa mask offset vp) = refl
 unknown_same h = refl
 
 normal_same : (h : Header) → breaks_data_type (with_offset 0 h) ≡ breaks_data_type h
 normal_same (Area bytes area offset) = refl
-normal_same (Page gpa mask offset large unmeasured kind) = refl
-normal_same (Context gpa mask offset vp) = refl
 normal_same h = refl
 
 tail_same : (h : Header) → tail_size (with_offset 0 h) ≡ tail_size h
 tail_same (Area bytes area offset) = refl
-tail_same (Page gpa mask offset large unmeasured kind) = refl
-tail_same (Context gpa mask offset vp) = refl
 tail_same h = refl
 
 -- a page of data is a whole page
@@ -108,14 +102,14 @@ passed_over true what others kept none = cc
 passed_over false what others kept none = none
 
 -- the component of an accepted header breaks no rule
-component_kept : (total : ℕ) (body : List ℕ) (before : List Header) (placed : PlacedHeader) → IsAcceptedHeader total body before placed
+component_kept : WhatIsRead → (total : ℕ) (body : List ℕ) (before : List Header) (placed : PlacedHeader) → IsAcceptedHeader total body before placed
     → component_fault (seen_of (map (with_offset 0) before)) (component_of placed) ≡ None
 unfolding component_fault
-component_kept total body before placed is =
+component_kept law total body before placed is =
     let h = placed.header in
     let seen = seen_of (map (with_offset 0) before) in
     let none : rule_fault total seen h ≡ None = ap (λ s. rule_fault total s h) (seen_same 0 before) ∙ is.rules in
-    let read = read_is is.kind placed.raw h is.form in
+    let read = read_is law is.kind placed.raw h is.form in
     let known = unknown_same h ∙ read.known in
     let tail : (length (header_tail h placed.raw) == tail_size (with_offset 0 h)) ≡ true = eq-eqb _ _ (read.tail ∙ sym (tail_same h)) in
     let fits : fits_content (with_offset 0 h) (content_of h placed.content) ≡ true =
@@ -143,13 +137,13 @@ abbrev headers_in : List PlacedHeader → List Header
 headers_in placed = map (λ p. p.header) placed
 
 -- behind the first headers of an accepted file, the components of the others break no rule
-behind_kept : (file : List ℕ) (done left : List PlacedHeader) → IsAccepted file → done ++ left ≡ placed_headers file
+behind_kept : WhatIsRead → (file : List ℕ) (done left : List PlacedHeader) → IsAccepted file → done ++ left ≡ placed_headers file
     → fault_behind (map (with_offset 0) (headers_in done)) (map component_of left) ≡ None
 unfolding fault_behind
-behind_kept file done [] accepted all =
+behind_kept law file done [] accepted all =
     let same : headers_of file ≡ headers_in done = ap headers_in (sym all ∙ append-nil done) in
     end_kept (headers_in done) (subst (λ hs. 0 < length (platforms_of hs)) same (has_platform file accepted))
-behind_kept file done (p ∷ left) accepted all =
+behind_kept law file done (p ∷ left) accepted all =
     let total = (fixed_fields file).total in
     let before = map (with_offset 0) (headers_in done) in
     let others = map component_of left in
@@ -158,15 +152,15 @@ behind_kept file done (p ∷ left) accepted all =
     ap (λ ps. take (length done) (headers_in ps)) (sym all)
     ∙ ap (take (length done)) (map-append (λ (q : PlacedHeader). q.header) done (p ∷ left))
     ∙ take_at (headers_in done) (headers_in (p ∷ left)) (length done) (length-map done (λ (q : PlacedHeader). q.header)) in
-    let kept = component_kept total (file_body file) (headers_in done) p (subst (λ hs. IsAcceptedHeader total (file_body file) hs p) first here) in
+    let kept = component_kept law total (file_body file) (headers_in done) p (subst (λ hs. IsAcceptedHeader total (file_body file) hs p) first here) in
     let more : before ++ with_offset 0 p.header ∷ [] ≡ map (with_offset 0) (headers_in (done ++ p ∷ [])) =
     sym (ap (map (with_offset 0)) (map-append (λ (q : PlacedHeader). q.header) done (p ∷ [])) ∙ map-append (with_offset 0) (headers_in done) (p.header ∷ [])) in
     ap (λ f. unless_broken (length before) f (fault_behind (before ++ with_offset 0 p.header ∷ []) others)) kept
     ∙ ap (λ hs. fault_behind hs others) more
-    ∙ behind_kept file (done ++ p ∷ []) left accepted (append_assoc done (p ∷ []) left ∙ all)
+    ∙ behind_kept law file (done ++ p ∷ []) left accepted (append_assoc done (p ∷ []) left ∙ all)
 
-pub image_list_kept : (file : List ℕ) → IsAccepted file → list_fault (components_in file) ≡ None
-image_list_kept file accepted = behind_kept file [] (placed_headers file) accepted refl
+pub image_list_kept : WhatIsRead → (file : List ℕ) → IsAccepted file → list_fault (components_in file) ≡ None
+image_list_kept law file accepted = behind_kept law file [] (placed_headers file) accepted refl
 
 -- one page more of data
 range_more : (a n : ℕ) → range_with_len a (suc n) ≡ range_with_len a n ++ (a + n) ∷ []
@@ -202,13 +196,13 @@ listing_more all before p left made new c l first is fits pushed =
       each = subst (AllByRecursion IsComponent) (sym pushed) (all_more made c here.each fits);
     }
 
-pub listing_end : (file : List ℕ) (left : List PlacedHeader) (made : List Component) → IsAccepted file → length (placed_headers file) < 2 ^ 32
+pub listing_end : WhatIsRead → (file : List ℕ) (left : List PlacedHeader) (made : List Component) → IsAccepted file → length (placed_headers file) < 2 ^ 32
     → Listing (placed_headers file) left made → left ≡ [] → (made ≡ components_in file) × IsValid made
-listing_end file left made accepted few l none =
+listing_end law file left made accepted few l none =
     let same : made ≡ components_in file = sym (append-nil made) ∙ ap (λ ps. made ++ map component_of ps) (sym none) ∙ l.same in (
       same,
       record {
-        kept = ap list_fault same ∙ image_list_kept file accepted;
+        kept = ap list_fault same ∙ image_list_kept law file accepted;
         fits = record {
           few = (let sized = ap length same ∙ length-map (placed_headers file) component_of in omega arith);
           each = l.each;

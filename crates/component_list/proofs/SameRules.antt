@@ -4,7 +4,7 @@ use Rattle.std.specs.Prelude.{max}
 use Rattle.std.specs.Option.{option_to_list}
 use Rattle.std.specs.List.{cons_option}
 use Rattle.igvm_headers.specs.declared.header.Header.{Header}
-use Rattle.igvm_headers.specs.declared.header.Header.TheVariants.{Area, Page, Context}
+use Rattle.igvm_headers.specs.declared.header.Header.TheVariants.{Area, Context}
 use Rattle.platform_masks.specs.Platforms.{platform_of, platforms_from}
 use Rattle.igvm_image.specs.declared.area_table.AreaEntry.{AreaEntry}
 use Rattle.igvm_image.specs.Areas.{area_entry, areas_of, placed_pages}
@@ -14,26 +14,18 @@ use Rattle.igvm_image.specs.RulesLaws.{keeps_rules, rule_fault-none}
 
 class_same : (at : ℕ) (h : Header) → class_of (with_offset at h) ≡ class_of h
 class_same at (Area bytes area offset) = refl
-class_same at (Page gpa mask offset large unmeasured kind) = refl
-class_same at (Context gpa mask offset vp) = refl
 class_same at h = refl
 
 platform_same : (at n : ℕ) (h : Header) → platform_of n (with_offset at h) ≡ platform_of n h
 platform_same at n (Area bytes area offset) = refl
-platform_same at n (Page gpa mask offset large unmeasured kind) = refl
-platform_same at n (Context gpa mask offset vp) = refl
 platform_same at n h = refl
 
 area_same : (at : ℕ) (h : Header) → area_entry (with_offset at h) ≡ area_entry h
 area_same at (Area bytes area offset) = refl
-area_same at (Page gpa mask offset large unmeasured kind) = refl
-area_same at (Context gpa mask offset vp) = refl
 area_same at h = refl
 
 pages_same : (at : ℕ) (areas : List AreaEntry) (h : Header) → placed_pages areas (with_offset at h) ≡ placed_pages areas h
 pages_same at areas (Area bytes area offset) = refl
-pages_same at areas (Page gpa mask offset large unmeasured kind) = refl
-pages_same at areas (Context gpa mask offset vp) = refl
 pages_same at areas h = refl
 
 latest_same : (at n : ℕ) (hs : List Header)
@@ -86,8 +78,6 @@ record SameRules (at : ℕ) (seen : Seen) (h : Header) : Type 0 where
 
 same_rules : (at : ℕ) (seen : Seen) (h : Header) → SameRules at seen h
 same_rules at seen (Area bytes area offset) = record { order = refl; mask = refl; align = refl; limit = refl; repeated = refl; unknown = refl; size = refl; wrap = refl; pages = refl }
-same_rules at seen (Page gpa mask offset large unmeasured kind) = record { order = refl; mask = refl; align = refl; limit = refl; repeated = refl; unknown = refl; size = refl; wrap = refl; pages = refl }
-same_rules at seen (Context gpa mask offset vp) = record { order = refl; mask = refl; align = refl; limit = refl; repeated = refl; unknown = refl; size = refl; wrap = refl; pages = refl }
 same_rules at seen h = record { order = refl; mask = refl; align = refl; limit = refl; repeated = refl; unknown = refl; size = refl; wrap = refl; pages = refl }
 
 -- the same rules at another file offset and in a file of another size
@@ -111,7 +101,5 @@ rules_at total other at seen h none inside =
 
 -- at file offset 0 no data lie outside
 pub inside_at_0 : (total : ℕ) (h : Header) → breaks_data total (with_offset 0 h) ≡ false
-inside_at_0 total (Area bytes area offset) = refl
-inside_at_0 total (Page gpa mask offset large unmeasured kind) = refl
 inside_at_0 total (Context gpa mask offset vp) = grind arith
 inside_at_0 total h = refl

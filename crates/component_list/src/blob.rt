@@ -5,8 +5,8 @@ ghost use Rattle.std.specs.Cmp.Rules.{comparing};
 ghost use Rattle.std.specs.Cmp.Lexicographic.{pointwise};
 ghost use Rattle.std.specs.Rc.{rc_slice_items};
 ghost use Rattle.igvm_headers.specs.Numbers.{slice};
+ghost use Rattle.igvm_headers.specs.SpellingConditions.{AreBytes};
 ghost use Rattle.component_list.specs.Blobs.{bytes_of};
-ghost use Rattle.component_list.specs.Ranges.{AreBytes};
 
 use crate::slices::{behind, front};
 use std::marker::Model;

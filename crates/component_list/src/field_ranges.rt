@@ -1,7 +1,8 @@
 //! What the types of a component say of its numbers, as facts that a caller sees.
 ghost use Rattle.std.specs.Prelude.{◌≡◌};
 ghost use Rattle.igvm_headers.specs.HeaderFacts.{data_offset};
-ghost use Rattle.component_list.specs.Ranges.{HoldsBytes, IsComponent, ListsAreBytes};
+ghost use Rattle.igvm_headers.specs.SpellingConditions.{ListsAreBytes};
+ghost use Rattle.component_list.specs.Ranges.{HoldsBytes, IsComponent};
 
 use crate::blob::note_bytes;
 use crate::component::{Component, Content};

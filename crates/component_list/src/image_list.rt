@@ -11,7 +11,7 @@ use crate::component::{Component, Content};
 use crate::field_ranges::note_component;
 use crate::list::ComponentList;
 use crate::slices::behind;
-use igvm_headers::{Header, Memory, PAGE_SIZE};
+use igvm_headers::{Header, Memory, PAGE_SIZE, what_is_read};
 use igvm_image::{DataView, ImageView, Placed};
 use std::alloc::Global;
 
@@ -25,6 +25,8 @@ pub fn components_of(alloc: Global, view: &ImageView) -> Result<ComponentList, M
     ensures list { IfOk result (λ list. list ≡ list_of view.now) }
     ensures valid { OnOk result (IsList (list_of view.now)) }
 {
+    // A law: nothing runs.
+    what_is_read();
     // A file that is viewed is accepted.
     let fixed = view.fixed();
     let mut parts = Vec::new(alloc);

@@ -21,6 +21,7 @@ ghost use Rattle.component_list.specs.ImageList.{data_bytes, list_of};
 
 use crate::component::Component;
 use crate::list::ComponentList;
+use igvm_headers::{equal_headers_are_one, what_is_read};
 
 /// Where a header's data stand in the file changes nothing of what the rules ask of the headers
 /// before one, and of the rules only the one on data outside the file.
@@ -36,7 +37,9 @@ pub fn offsets_do_not_count()
 pub fn image_lists_are_valid()
     ensures version { (file : List ℕ) → IsAccepted file → is_version (list_of file).version ≡ true }
     ensures parts { (file : List ℕ) → IsAccepted file → list_fault (list_of file).parts ≡ None }
-{}
+{
+    what_is_read();
+}
 
 /// The first fault of a list: that of the first component that breaks a rule behind those before it,
 /// else the lack of a platform. There is none exactly where all is kept.
@@ -70,4 +73,6 @@ pub fn equality_is_exact()
     ensures components { (a b : Component) → IsTrue (⟦<Component as PartialEq>⟧.eq a b) ↔ (a ≡ b) }
     ensures lists { (a b : ImageParts)
         → IsTrue (⟦<ComponentList as PartialEq>⟧.eq a b) ↔ (a ≡ b) }
-{}
+{
+    equal_headers_are_one();
+}

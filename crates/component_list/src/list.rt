@@ -11,6 +11,7 @@ ghost use Rattle.component_list.specs.Lists.{list_fault, IsValid};
 use crate::component::Component;
 use crate::list_fault::ListFault;
 use crate::list_rules::judge;
+use igvm_headers::equal_headers_are_one;
 use std::marker::Model;
 
 /// The components of an image in file order, and the version of the format that it is written in:
@@ -117,6 +118,8 @@ impl PartialEq for ComponentList {
             && pointwise ⟦<Component as PartialEq>⟧.eq self.now.parts other.now.parts) }
         ensures exact { IsTrue result ↔ (self.now ≡ other.now) }
     {
+        // A law: nothing runs.
+        equal_headers_are_one();
         self.version == other.version && self.components() == other.components()
     }
 }

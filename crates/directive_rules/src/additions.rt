@@ -15,7 +15,6 @@ ghost use Rattle.directive_rules.specs.EarlierHeaders.{Summarizes, HasRoom, Take
 use crate::earlier_headers::EarlierHeaders;
 use crate::misfit::IdWanted;
 use crate::page_ranges::PageRanges;
-use crate::places::placed_pages;
 use igvm_headers::{Header, Memory, PAGE_SIZE};
 use igvm_image::{ImageView, Placed};
 use std::alloc::Global;
@@ -44,7 +43,7 @@ impl EarlierHeaders {
             (TakesIn self.old self.new (areas_of (headers_of view.now)) (placed_view placed.now)) }
     {
         let header = &placed.header;
-        let count = placed_pages(view, header);
+        let count = view.placed_pages(header);
         take_area(&mut self.gone, header)?;
         take_context(&mut self.vps, header)?;
         take_pages(&mut self.ranges, header.gpa() / PAGE_SIZE, count)?;

@@ -9,7 +9,6 @@ pub mod laws;
 mod misfit;
 mod page_ranges;
 mod pages;
-mod places;
 mod rows;
 mod tags;
 #[cfg(test)]

@@ -9,7 +9,6 @@ ghost use Rattle.directive_rules.specs.EarlierHeaders.{before_in, shares_in};
 
 use crate::earlier_headers::{EarlierHeaders, MOST_AREA_BYTES, MOST_PAGES};
 use crate::misfit::Why;
-use crate::places::placed_pages;
 use host_set::{HostSet, MemoryPlan};
 use igvm_headers::{Header, PAGE_SIZE, PageKind, ParamKind, PlatformKind};
 use igvm_image::ImageView;
@@ -51,12 +50,12 @@ impl EarlierHeaders {
                 ..
             } => type_not_here(kind, page)
                 .then_some(Why::TypeNotHere)
-                .or(self.pages_why(plan, gpa, placed_pages(view, header))),
+                .or(self.pages_why(plan, gpa, view.placed_pages(header))),
             Header::Insert { gpa, area, .. } => self
                 .gone
                 .contains(&area)
                 .then_some(Why::AreaGone)
-                .or(self.pages_why(plan, gpa, placed_pages(view, header))),
+                .or(self.pages_why(plan, gpa, view.placed_pages(header))),
             Header::Context { vp, .. } => (!is_snp(kind))
                 .then_some(Why::ContextNotHere)
                 .or(self.vps.contains(&vp).then_some(Why::ContextRepeated)),

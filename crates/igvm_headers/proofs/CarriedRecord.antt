@@ -1,5 +1,5 @@
 -- A carried header: what is spelled is read again, and what is read can be spelled.
-use Rattle.std.proofs.Common.{◌≡◌, ℕ, List, length, true, false, Ok, refl, sym, ap, ◌∙◌, ◌^◌, ◌<◌, [], Bool, None, subst}
+use Rattle.std.proofs.Common.{◌≡◌, ℕ, List, length, true, false, Ok, refl, sym, ap, ◌∙◌, [], Bool, None, subst}
 use Rattle.std.specs.Prelude.{◌==◌, find, ◌∷◌}
 use Rattle.std.specs.List.{AllByRecursion}
 use Rattle.std.proofs.lemmas.Bool.{eqb-true, false≢true}
@@ -56,8 +56,8 @@ pub carried_again : (kind size : ℕ) (tail : List ℕ) → is_carried kind ≡ 
 unfolding header_fields carried_form
 carried_again kind size tail is same = rw (is, same) refl
 
-pub carried_read : (kind : ℕ) (content : List ℕ) (h : Header) → kind < 2 ^ 32 → length content < 2 ^ 32 → carried_form kind content ≡ Ok h → Reads kind content h
+pub carried_read : (kind : ℕ) (content : List ℕ) (h : Header) → carried_form kind content ≡ Ok h → Reads kind content h
 unfolding carried_form ok
-carried_read kind content h kind_fits size_fits e =
+carried_read kind content h e =
     let p = passed (is_carried kind) (Ok (Carried kind (length content))) _ h e in
-    subst (Reads kind content) (ok_is _ h p.1) (record { type = refl; spellable = record { numbers = (kind_fits, size_fits); tail_fits = refl; large_is_normal = tt; kind_is_carried = p.0 } })
+    subst (Reads kind content) (ok_is _ h p.1) (record { type = refl; numbers = λ is. (is.kind_fits, is.size_fits); tail_fits = refl; large_is_normal = tt; kind_is_carried = p.0 })

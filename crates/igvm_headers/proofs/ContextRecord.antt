@@ -8,7 +8,7 @@ use Rattle.igvm_headers.specs.Records.Fields.{reserved}
 use Rattle.igvm_headers.specs.SpellingConditions.{NumbersFit}
 use Rattle.igvm_headers.specs.declared.header.Header.{Header}
 use Rattle.igvm_headers.specs.declared.header.Header.TheVariants.{Context}
-use Rattle.igvm_headers.proofs.RecordFields.{number_again, AreBytes, Reads, number_fits, passed, ok, ok_is}
+use Rattle.igvm_headers.proofs.RecordFields.{number_again, Reads, number_fits, passed, ok, ok_is}
 
 pub context_again : (gpa mask offset vp : ℕ) → NumbersFit (Context gpa mask offset vp) → context_form (header_fields (Context gpa mask offset vp)) ≡ Ok (Context gpa mask offset vp)
 unfolding header_fields context_fields context_form
@@ -20,8 +20,8 @@ context_again gpa mask offset vp fit =
     let v = number_again 2 vp (reserved 2) fit.3 in
     rw (g, m, o, v) refl
 
-pub context_read : (content : List ℕ) (h : Header) → AreBytes content → context_form content ≡ Ok h → Reads 0x304 content h
+pub context_read : (content : List ℕ) (h : Header) → context_form content ≡ Ok h → Reads 0x304 content h
 unfolding context_form ok
-context_read content h bytes e =
+context_read content h e =
     let p = passed _ (Ok (Context (number_at 8 0 content) (number_at 4 8 content) (number_at 4 12 content) (number_at 2 16 content))) _ h e in
-    subst (Reads 0x304 content) (ok_is _ h p.1) (record { type = refl; spellable = record { numbers = (number_fits 8 0 content bytes, number_fits 4 8 content bytes, number_fits 4 12 content bytes, number_fits 2 16 content bytes); tail_fits = refl; large_is_normal = tt; kind_is_carried = tt } })
+    subst (Reads 0x304 content) (ok_is _ h p.1) (record { type = refl; numbers = λ is. (number_fits 8 0 content is.bytes, number_fits 4 8 content is.bytes, number_fits 4 12 content is.bytes, number_fits 2 16 content is.bytes); tail_fits = refl; large_is_normal = tt; kind_is_carried = tt })

@@ -10,7 +10,7 @@ use Rattle.igvm_headers.specs.Records.Fields.{reserved}
 use Rattle.igvm_headers.specs.SpellingConditions.{NumbersFit}
 use Rattle.igvm_headers.specs.declared.header.Header.{Header}
 use Rattle.igvm_headers.specs.declared.header.Header.TheVariants.{IdBlock}
-use Rattle.igvm_headers.proofs.RecordFields.{number_again, AreBytes, Reads, number_fits, of_length_ok}
+use Rattle.igvm_headers.proofs.RecordFields.{number_again, Reads, number_fits, of_length_ok}
 
 -- what stands behind a front of known length
 past : (front rest : List ℕ) (n k at : ℕ) → length front ≡ n → at ≡ n + k → drop at (front ++ rest) ≡ drop k rest
@@ -72,9 +72,9 @@ id_block_tail mask author_enabled ld family_id image_id version guest_svn id_alg
     let whole : header_content (IdBlock mask author_enabled ld family_id image_id version guest_svn id_algorithm author_algorithm) tail ≡ content = simp append_assoc in
     ap (drop 104) whole ∙ (ids_again ld family_id image_id rest fit.2 fit.3 fit.4).behind 16 96 refl
 
-pub id_block_read : (content : List ℕ) (h : Header) → AreBytes content → id_block_form content ≡ Ok h → Reads 0x30B content h
+pub id_block_read : (content : List ℕ) (h : Header) → id_block_form content ≡ Ok h → Reads 0x30B content h
 unfolding id_block_form
-id_block_read content h bytes e =
+id_block_read content h e =
     let p = of_length_ok 696 content (IdBlock (number_at 4 0 content) (number_at 1 4 content) (slice content 8 48) (slice content 56 16) (slice content 72 16) (number_at 4 88 content) (number_at 4 92 content) (number_at 4 96 content) (number_at 4 100 content)) h e in
     let ld : length (slice content 8 48) ≡ 48 = omega (arith, p.0, length-take 48 (drop 8 content), length-drop 8 content) in
     let family : length (slice content 56 16) ≡ 16 = omega (arith, p.0, length-take 16 (drop 56 content), length-drop 56 content) in
@@ -82,10 +82,8 @@ id_block_read content h bytes e =
     let rest : length (drop 104 content) ≡ 592 = omega (arith, p.0, length-drop 104 content) in
     subst (Reads 0x30B content) p.1 (record {
       type = refl;
-      spellable = record {
-        numbers = (number_fits 4 0 content bytes, number_fits 1 4 content bytes, ld, family, image, number_fits 4 88 content bytes, number_fits 4 92 content bytes, number_fits 4 96 content bytes, number_fits 4 100 content bytes);
-        tail_fits = rest;
-        large_is_normal = tt;
-        kind_is_carried = tt;
-      };
+      numbers = λ is. (number_fits 4 0 content is.bytes, number_fits 1 4 content is.bytes, ld, family, image, number_fits 4 88 content is.bytes, number_fits 4 92 content is.bytes, number_fits 4 96 content is.bytes, number_fits 4 100 content is.bytes);
+      tail_fits = rest;
+      large_is_normal = tt;
+      kind_is_carried = tt;
     })

@@ -1,11 +1,15 @@
 pub mod AreaRecord
 pub mod Bits
+pub mod Bytes
 pub mod CarriedRecord
 pub mod Checksum
 pub mod ContextRecord
+pub mod Equality
 pub mod ErrorRangeRecord
+pub mod FieldBytes
 pub mod IdBlockRecord
 pub mod InsertRecord
+pub mod Offsets
 pub mod PageRecord
 pub mod Pages
 pub mod ParamRecord

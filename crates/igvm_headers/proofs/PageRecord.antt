@@ -14,7 +14,7 @@ use Rattle.igvm_headers.specs.PageKinds.{page_kind_of, data_type}
 use Rattle.igvm_headers.specs.declared.page_kind.PageKind.{PageKind}
 use Rattle.igvm_headers.specs.declared.fault.HeaderFault.{HeaderFault}
 use Rattle.igvm_headers.specs.declared.page_kind.PageKind.TheVariants as page
-use Rattle.igvm_headers.proofs.RecordFields.{number_again, AreBytes, Reads, number_fits, passed, ok, ok_is}
+use Rattle.igvm_headers.proofs.RecordFields.{number_again, Reads, number_fits, passed, ok, ok_is}
 
 pub page_kind_again : (kind : PageKind) → page_kind_of (data_type kind) ≡ Some kind
 page_kind_again page.Normal = refl
@@ -90,26 +90,24 @@ normal_where_large false n kind is passes set = absurd cc
 normal_where_large true n kind is passes set =
     some_is kind page.Normal (sym is ∙ ap page_kind_of (eqb-true n 0 (not_false (n == 0) passes)))
 
-pub page_with_read : (content : List ℕ) (large : Bool) (kind : Option PageKind) (h : Header) → AreBytes content → page_kind_of (number_at 2 20 content) ≡ kind → page_with content large kind ≡ Ok h → Reads 0x302 content h
+pub page_with_read : (content : List ℕ) (large : Bool) (kind : Option PageKind) (h : Header) → page_kind_of (number_at 2 20 content) ≡ kind → page_with content large kind ≡ Ok h → Reads 0x302 content h
 unfolding ok
-page_with_read content large None h bytes is e = absurd cc
-page_with_read content large (Some kind) h bytes is e =
+page_with_read content large None h is e = absurd cc
+page_with_read content large (Some kind) h is e =
     let p = not_refused (large && not (number_at 2 20 content == 0)) _ _ h e in
     subst (Reads 0x302 content) (ok_is _ h p.1) (record {
       type = refl;
-      spellable = record {
-        numbers = (number_fits 8 0 content bytes, number_fits 4 8 content bytes, number_fits 4 12 content bytes);
-        tail_fits = refl;
-        large_is_normal = normal_where_large large (number_at 2 20 content) kind is p.0;
-        kind_is_carried = tt;
-      };
+      numbers = λ small. (number_fits 8 0 content small.bytes, number_fits 4 8 content small.bytes, number_fits 4 12 content small.bytes);
+      tail_fits = refl;
+      large_is_normal = normal_where_large large (number_at 2 20 content) kind is p.0;
+      kind_is_carried = tt;
     })
 
-pub page_unless_read : (content : List ℕ) (unknown : Option ℕ) (h : Header) → AreBytes content → page_unless content unknown ≡ Ok h → Reads 0x302 content h
-page_unless_read content (Some bit) h bytes e = absurd cc
-page_unless_read content None h bytes e = page_with_read content (is_set 0 (number_at 4 16 content)) (page_kind_of (number_at 2 20 content)) h bytes refl e
+pub page_unless_read : (content : List ℕ) (unknown : Option ℕ) (h : Header) → page_unless content unknown ≡ Ok h → Reads 0x302 content h
+page_unless_read content (Some bit) h e = absurd cc
+page_unless_read content None h e = page_with_read content (is_set 0 (number_at 4 16 content)) (page_kind_of (number_at 2 20 content)) h refl e
 
-pub page_read : (content : List ℕ) (h : Header) → AreBytes content → page_form content ≡ Ok h → Reads 0x302 content h
+pub page_read : (content : List ℕ) (h : Header) → page_form content ≡ Ok h → Reads 0x302 content h
 unfolding page_form
-page_read content h bytes e =
-    page_unless_read content (least_set 30 2 (number_at 4 16 content)) h bytes (passed (length content == 24) _ _ h e).1
+page_read content h e =
+    page_unless_read content (least_set 30 2 (number_at 4 16 content)) h (passed (length content == 24) _ _ h e).1

@@ -11,7 +11,7 @@ use Rattle.igvm_headers.specs.declared.param_kind.ParamKind.{ParamKind}
 use Rattle.igvm_headers.specs.declared.header.Header.{Header}
 use Rattle.igvm_headers.specs.declared.header.Header.TheVariants.{Param}
 use Rattle.igvm_headers.specs.declared.param_kind.ParamKind.TheVariants as param
-use Rattle.igvm_headers.proofs.RecordFields.{number_again, AreBytes, Reads, number_fits, of_length_ok}
+use Rattle.igvm_headers.proofs.RecordFields.{number_again, Reads, number_fits, of_length_ok}
 
 pub header_form-param : (kind : ParamKind) (content : List ℕ) → header_form (param_type kind) content ≡ param_form kind content
 unfolding header_form
@@ -33,8 +33,8 @@ param_again kind area byte_offset fit =
     let o = number_again 4 byte_offset [] fit.1 in
     rw (a, o) refl
 
-pub param_read : (kind : ParamKind) (content : List ℕ) (h : Header) → AreBytes content → param_form kind content ≡ Ok h → Reads (param_type kind) content h
+pub param_read : (kind : ParamKind) (content : List ℕ) (h : Header) → param_form kind content ≡ Ok h → Reads (param_type kind) content h
 unfolding param_form
-param_read kind content h bytes e =
+param_read kind content h e =
     let p = of_length_ok 8 content (Param kind (number_at 4 0 content) (number_at 4 4 content)) h e in
-    subst (Reads (param_type kind) content) p.1 (record { type = refl; spellable = record { numbers = (number_fits 4 0 content bytes, number_fits 4 4 content bytes); tail_fits = refl; large_is_normal = tt; kind_is_carried = tt } })
+    subst (Reads (param_type kind) content) p.1 (record { type = refl; numbers = λ is. (number_fits 4 0 content is.bytes, number_fits 4 4 content is.bytes); tail_fits = refl; large_is_normal = tt; kind_is_carried = tt })

@@ -11,7 +11,7 @@ use Rattle.igvm_headers.specs.declared.header.Header.TheVariants.{Platform}
 use Rattle.igvm_headers.specs.PlatformKinds.{kind_number, platform_kind_of}
 use Rattle.igvm_headers.specs.declared.platform_kind.PlatformKind.{PlatformKind}
 use Rattle.igvm_headers.specs.declared.platform_kind.PlatformKind.TheVariants as platform
-use Rattle.igvm_headers.proofs.RecordFields.{number_again, AreBytes, Reads, number_fits, passed, ok, ok_is}
+use Rattle.igvm_headers.proofs.RecordFields.{number_again, Reads, number_fits, passed, ok, ok_is}
 
 pub platform_kind_again : (kind : PlatformKind) → platform_kind_of (kind_number kind) ≡ Some kind
 platform_kind_again platform.Native = refl
@@ -43,13 +43,13 @@ platform_again mask highest_vtl kind version shared_gpa fit =
     let g = number_again 8 shared_gpa [] fit.3 in
     rw (k, platform_kind_again kind, m, l, v, g) refl
 
-pub platform_with_read : (content : List ℕ) (kind : Option PlatformKind) (h : Header) → AreBytes content → platform_with content kind ≡ Ok h → Reads 0x1 content h
+pub platform_with_read : (content : List ℕ) (kind : Option PlatformKind) (h : Header) → platform_with content kind ≡ Ok h → Reads 0x1 content h
 unfolding ok
-platform_with_read content None h bytes e = absurd cc
-platform_with_read content (Some kind) h bytes e =
-    subst (Reads 0x1 content) (ok_is _ h e) (record { type = refl; spellable = record { numbers = (number_fits 4 0 content bytes, number_fits 1 4 content bytes, number_fits 2 6 content bytes, number_fits 8 8 content bytes); tail_fits = refl; large_is_normal = tt; kind_is_carried = tt } })
+platform_with_read content None h e = absurd cc
+platform_with_read content (Some kind) h e =
+    subst (Reads 0x1 content) (ok_is _ h e) (record { type = refl; numbers = λ is. (number_fits 4 0 content is.bytes, number_fits 1 4 content is.bytes, number_fits 2 6 content is.bytes, number_fits 8 8 content is.bytes); tail_fits = refl; large_is_normal = tt; kind_is_carried = tt })
 
-pub platform_read : (content : List ℕ) (h : Header) → AreBytes content → platform_form content ≡ Ok h → Reads 0x1 content h
+pub platform_read : (content : List ℕ) (h : Header) → platform_form content ≡ Ok h → Reads 0x1 content h
 unfolding platform_form
-platform_read content h bytes e =
-    platform_with_read content (platform_kind_of (number_at 1 5 content)) h bytes (passed (length content == 16) _ _ h e).1
+platform_read content h e =
+    platform_with_read content (platform_kind_of (number_at 1 5 content)) h (passed (length content == 16) _ _ h e).1

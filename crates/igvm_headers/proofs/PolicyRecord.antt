@@ -8,7 +8,7 @@ use Rattle.igvm_headers.specs.Records.Fields.{reserved}
 use Rattle.igvm_headers.specs.SpellingConditions.{NumbersFit}
 use Rattle.igvm_headers.specs.declared.header.Header.{Header}
 use Rattle.igvm_headers.specs.declared.header.Header.TheVariants.{Policy}
-use Rattle.igvm_headers.proofs.RecordFields.{number_again, AreBytes, Reads, number_fits, of_length_ok}
+use Rattle.igvm_headers.proofs.RecordFields.{number_again, Reads, number_fits, of_length_ok}
 
 pub policy_again : (policy mask : ℕ) → NumbersFit (Policy policy mask) → policy_form (header_fields (Policy policy mask)) ≡ Ok (Policy policy mask)
 unfolding header_fields policy_fields policy_form
@@ -17,8 +17,8 @@ policy_again policy mask fit =
     let m = number_again 4 mask (reserved 4) fit.1 in
     rw (p, m) refl
 
-pub policy_read : (content : List ℕ) (h : Header) → AreBytes content → policy_form content ≡ Ok h → Reads 0x101 content h
+pub policy_read : (content : List ℕ) (h : Header) → policy_form content ≡ Ok h → Reads 0x101 content h
 unfolding policy_form
-policy_read content h bytes e =
+policy_read content h e =
     let p = of_length_ok 16 content (Policy (number_at 8 0 content) (number_at 4 8 content)) h e in
-    subst (Reads 0x101 content) p.1 (record { type = refl; spellable = record { numbers = (number_fits 8 0 content bytes, number_fits 4 8 content bytes); tail_fits = refl; large_is_normal = tt; kind_is_carried = tt } })
+    subst (Reads 0x101 content) p.1 (record { type = refl; numbers = λ is. (number_fits 8 0 content is.bytes, number_fits 4 8 content is.bytes); tail_fits = refl; large_is_normal = tt; kind_is_carried = tt })

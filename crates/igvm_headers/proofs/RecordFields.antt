@@ -7,7 +7,7 @@ use Rattle.byteorder.specs.Endian.{little_bytes}
 use Rattle.igvm_headers.specs.Numbers.{number_at}
 use Rattle.igvm_headers.specs.HeaderFacts.{header_type, header_tail}
 use Rattle.igvm_headers.specs.Records.Fields.{of_length}
-use Rattle.igvm_headers.specs.SpellingConditions.{IsSpellable}
+use Rattle.igvm_headers.specs.SpellingConditions.{NumbersFit, TailFits, LargeIsNormal, KindIsCarried}
 use Rattle.igvm_headers.specs.declared.header.Header.{Header}
 use Rattle.byteorder.specs.Numbers.{little_number-reads_back, little_from-lt}
 use Rattle.igvm_headers.specs.declared.fault.HeaderFault.{HeaderFault}
@@ -16,17 +16,22 @@ use Rattle.igvm_headers.specs.declared.fault.HeaderFault.{HeaderFault}
 pub number_again : (n x : ℕ) (rest : List ℕ) → x < 256 ^ n → number_at n 0 (little_bytes n x ++ rest) ≡ x
 number_again n x rest h = little_number-reads_back n x rest h
 
--- a list of bytes
-abbrev pub AreBytes : List ℕ → Type 0
-AreBytes bytes = (k : ℕ) → slice_index bytes k < 2 ^ 8
+-- a type of 32 bits and a content, of bytes as many as such a number can say
+pub record IsSmall (kind : ℕ) (content : List ℕ) : Type 0 where
+  pub kind_fits : kind < 2 ^ 32
+  pub size_fits : length content < 2 ^ 32
+  pub bytes : (k : ℕ) → slice_index content k < 2 ^ 8
 
--- a content was read as this header, of this type
+-- what a header keeps that was read from a type and a content; its numbers fit where those do
 pub record Reads (kind : ℕ) (content : List ℕ) (h : Header) : Type 0 where
   pub type : header_type h ≡ kind
-  pub spellable : IsSpellable h (header_tail h content)
+  pub numbers : IsSmall kind content → NumbersFit h
+  pub tail_fits : TailFits h (header_tail h content)
+  pub large_is_normal : LargeIsNormal h
+  pub kind_is_carried : KindIsCarried h
 
 -- a number is of its field's size
-pub number_fits : (n at : ℕ) (content : List ℕ) → AreBytes content → number_at n at content < 256 ^ n
+pub number_fits : (n at : ℕ) (content : List ℕ) → ((k : ℕ) → slice_index content k < 2 ^ 8) → number_at n at content < 256 ^ n
 number_fits n at content bytes = little_from-lt 0 n (drop at content) (λ k. rw get_or-drop (bytes (at + k)))
 
 -- a test that passed

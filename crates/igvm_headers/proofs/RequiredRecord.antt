@@ -8,7 +8,7 @@ use Rattle.igvm_headers.specs.Records.Fields.{reserved}
 use Rattle.igvm_headers.specs.SpellingConditions.{NumbersFit}
 use Rattle.igvm_headers.specs.declared.header.Header.{Header}
 use Rattle.igvm_headers.specs.declared.header.Header.TheVariants.{Required}
-use Rattle.igvm_headers.proofs.RecordFields.{number_again, AreBytes, Reads, number_fits, of_length_ok}
+use Rattle.igvm_headers.proofs.RecordFields.{number_again, Reads, number_fits, of_length_ok}
 
 pub required_again : (gpa mask bytes flags : ℕ) → NumbersFit (Required gpa mask bytes flags) → required_form (header_fields (Required gpa mask bytes flags)) ≡ Ok (Required gpa mask bytes flags)
 unfolding header_fields required_fields required_form
@@ -20,8 +20,8 @@ required_again gpa mask bytes flags fit =
     let f = number_again 4 flags (reserved 4) fit.3 in
     rw (g, m, b, f) refl
 
-pub required_read : (content : List ℕ) (h : Header) → AreBytes content → required_form content ≡ Ok h → Reads 0x305 content h
+pub required_read : (content : List ℕ) (h : Header) → required_form content ≡ Ok h → Reads 0x305 content h
 unfolding required_form
-required_read content h bytes e =
+required_read content h e =
     let p = of_length_ok 24 content (Required (number_at 8 0 content) (number_at 4 8 content) (number_at 4 12 content) (number_at 4 16 content)) h e in
-    subst (Reads 0x305 content) p.1 (record { type = refl; spellable = record { numbers = (number_fits 8 0 content bytes, number_fits 4 8 content bytes, number_fits 4 12 content bytes, number_fits 4 16 content bytes); tail_fits = refl; large_is_normal = tt; kind_is_carried = tt } })
+    subst (Reads 0x305 content) p.1 (record { type = refl; numbers = λ is. (number_fits 8 0 content is.bytes, number_fits 4 8 content is.bytes, number_fits 4 12 content is.bytes, number_fits 4 16 content is.bytes); tail_fits = refl; large_is_normal = tt; kind_is_carried = tt })

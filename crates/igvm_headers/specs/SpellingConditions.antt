@@ -1,5 +1,6 @@
 -- Which headers have a spelling that is read again as the same header.
 use Rattle.std.specs.Prelude.{◌≡◌, ℕ, ◌<◌, ◌^◌, List, length, slice_index, IsTrue, Ok, ⊤}
+use Rattle.std.specs.List.{AllByRecursion}
 use Rattle.igvm_headers.specs.HeaderFacts.{tail_size}
 use Rattle.igvm_headers.specs.HeaderForm.{header_form}
 use Rattle.igvm_headers.specs.Records.Carried.{is_carried}
@@ -55,6 +56,16 @@ NumbersFit (IdBlock mask author_enabled ld family_id image_id version guest_svn 
     × (length image_id ≡ 16) × U32 version × U32 guest_svn × U32 id_algorithm
     × U32 author_algorithm
 NumbersFit (Carried kind length) = U32 kind × U32 length
+
+-- these numbers are bytes
+abbrev pub AreBytes : List ℕ → Type 0
+AreBytes bytes = AllByRecursion (λ byte. byte < 2 ^ 8) bytes
+
+-- the lists that a header holds, the three of an ID block, are bytes
+abbrev pub ListsAreBytes : Header → Type 0
+ListsAreBytes (IdBlock mask author_enabled ld family_id image_id version guest_svn id_algorithm author_algorithm) =
+    AreBytes ld × AreBytes family_id × AreBytes image_id
+ListsAreBytes _ = Unit {0}
 
 -- a header that is read again as it is spelled, with a tail
 pub record IsSpellable (header : Header) (tail : List ℕ) : Type 0 where

@@ -1,5 +1,5 @@
 //! What holds of a header by its type: one method a fact.
-ghost use Rattle.std.specs.Prelude.{◌≡◌, ◌≤◌};
+ghost use Rattle.std.specs.Prelude.{◌≡◌, ◌≤◌, ◌<◌};
 ghost use Rattle.igvm_headers.specs.HeaderFacts.{header_type, content_size, tail_size, class_of, mask_of, is_for_all, gpa_of, page_count, inserted_area, data_size, data_pages, data_offset, with_offset};
 
 use crate::Header;
@@ -109,10 +109,10 @@ impl Header {
     }
 
     /// How many pages of 4,096 bytes the header places; `area_bytes` is the size of the parameter area
-    /// that it puts into the guest, and counts for no other header.
+    /// that it puts into the guest, and counts for no other header. Such an area has at most 2^64 - 1 bytes.
     pub fn page_count(&self, area_bytes: u64) -> u64
         ensures value { result ≡ page_count self.now area_bytes }
-        ensures within { result ≤ 4503599627370496 }
+        ensures within { result < 4503599627370496 }
     {
         match *self {
             Header::Page { large, .. } => small_pages(large),

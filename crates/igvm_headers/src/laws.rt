@@ -1,10 +1,10 @@
 //! What holds of every header that is spelled: each law is a function that does nothing.
-ghost use Rattle.std.specs.Prelude.{◌≡◌, ◌+◌, ◌/◌, ◌*◌, ◌<◌, ℕ, List, ◌++◌, length, drop, replicate, Ok};
+ghost use Rattle.std.specs.Prelude.{◌≡◌, ◌↔◌, ◌+◌, ◌/◌, ◌*◌, ◌^◌, ◌<◌, ℕ, List, ◌++◌, length, drop, replicate, IsTrue, Ok};
 ghost use Rattle.igvm_headers.specs.Numbers.{number_at, slice};
-ghost use Rattle.igvm_headers.specs.HeaderFacts.{header_type, content_size, header_tail};
+ghost use Rattle.igvm_headers.specs.HeaderFacts.{header_type, content_size, header_tail, data_offset, with_offset};
 ghost use Rattle.igvm_headers.specs.HeaderForm.{header_form};
-ghost use Rattle.igvm_headers.specs.Spelling.{header_content, padding_size, spelled};
-ghost use Rattle.igvm_headers.specs.SpellingConditions.{NumbersFit, IsSpellable, IsRead};
+ghost use Rattle.igvm_headers.specs.Spelling.{header_fields, header_content, padding_size, spelled};
+ghost use Rattle.igvm_headers.specs.SpellingConditions.{NumbersFit, TailFits, LargeIsNormal, KindIsCarried, IsSpellable, IsRead, AreBytes, ListsAreBytes};
 ghost use Rattle.igvm_headers.specs.declared.header.Header.{Header};
 
 use crate::Header;
@@ -23,6 +23,35 @@ pub fn numbers_fit(h: Header)
         let _lengths = (ld.bytes().len(), family_id.len(), image_id.len());
     }
 }
+
+/// Headers are equal, as `==` answers, exactly where they are one.
+pub fn equal_headers_are_one()
+    ensures { (a b : Header) → IsTrue (⟦<Header as PartialEq>⟧.eq a b) ↔ (a ≡ b) }
+{}
+
+/// Where a header's data stand changes nothing else of it: at another file offset, of 32 bits, its
+/// numbers fit and it can be spelled as before, with fields as long. The last offset counts, and a
+/// header with its own offset is itself.
+pub fn offset_keeps()
+    ensures size { (at : ℕ) (h : Header)
+        → length (header_fields (with_offset at h)) ≡ length (header_fields h) }
+    ensures numbers { (at : ℕ) (h : Header) → at < 2 ^ 32
+        → NumbersFit h → NumbersFit (with_offset at h) }
+    ensures spellable { (at : ℕ) (h : Header) (tail : List ℕ) → at < 2 ^ 32
+        → IsSpellable h tail → IsSpellable (with_offset at h) tail }
+    ensures lists { (at : ℕ) (h : Header) → ListsAreBytes h → ListsAreBytes (with_offset at h) }
+    ensures last { (first second : ℕ) (h : Header)
+        → with_offset second (with_offset first h) ≡ with_offset second h }
+    ensures own { (h : Header) → with_offset (data_offset h) h ≡ h }
+{}
+
+/// A header's fields are bytes, and so is what is spelled with a tail of bytes: only the lists of an
+/// ID block might hold other numbers.
+pub fn fields_are_bytes()
+    ensures fields { (h : Header) → ListsAreBytes h → AreBytes (header_fields h) }
+    ensures spelled { (h : Header) (tail : List ℕ) → ListsAreBytes h → AreBytes tail
+        → AreBytes (spelled h tail) }
+{}
 
 /// What is spelled is read again as the same header with the same tail. How long its content is
 /// depends on the record alone and not on its numbers: that of a context has 20 bytes.
@@ -63,4 +92,15 @@ pub fn read_is_spellable()
         → header_type h ≡ kind }
     ensures spellable { (kind : ℕ) (content : List ℕ) (h : Header) → IsRead kind content h
         → IsSpellable h (header_tail h content) }
+{}
+
+/// What holds of a header that is read from any content, of bytes or not: its tail is of its size, a
+/// page of 2 MB is a normal one, and what is carried is of a type that is carried.
+pub fn what_is_read()
+    ensures tail { (kind : ℕ) (content : List ℕ) (h : Header) → header_form kind content ≡ Ok h
+        → TailFits h (header_tail h content) }
+    ensures large { (kind : ℕ) (content : List ℕ) (h : Header) → header_form kind content ≡ Ok h
+        → LargeIsNormal h }
+    ensures carried { (kind : ℕ) (content : List ℕ) (h : Header) → header_form kind content ≡ Ok h
+        → KindIsCarried h }
 {}

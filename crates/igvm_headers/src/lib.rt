@@ -29,7 +29,10 @@ pub use encode::encode_header;
 pub use fault::{HeaderFault, ReadFault, ReadWhat};
 pub use fixed::{FixedHeader, read_fixed};
 pub use header::Header;
-pub use laws::{numbers_fit, read_is_spellable, spelled_is_a_piece, spelled_is_read};
+pub use laws::{
+    equal_headers_are_one, fields_are_bytes, numbers_fit, offset_keeps, read_is_spellable,
+    spelled_is_a_piece, spelled_is_read, what_is_read,
+};
 pub use options::Options;
 pub use page_kind::{PageKind, page_kind_name};
 pub use page_view::{LARGE_PAGE_SIZE, PAGE_SIZE, PageView, page_bytes, small_pages};

@@ -1,5 +1,5 @@
 //! The rules on a header among those before it, one test each, in the order of docs/FORMAT.md.
-ghost use Rattle.std.specs.Prelude.{◌≡◌, ◌≤◌};
+ghost use Rattle.std.specs.Prelude.{◌≡◌, ◌<◌};
 ghost use Rattle.igvm_image.specs.Areas.{area_bytes_of, placed_pages};
 ghost use Rattle.igvm_image.specs.HeaderRules.{breaks_order, breaks_mask, breaks_align, breaks_area_limit, breaks_area_repeated, breaks_area_unknown, breaks_area_size, breaks_wrap, breaks_data, breaks_pages, passes};
 
@@ -120,7 +120,7 @@ pub(crate) fn breaks_pages(seen: &SeenHeaders, header: &Header) -> bool
 /// How many pages of 4,096 bytes a header places: an insert as many as its area has.
 pub(crate) fn placed_pages(seen: &SeenHeaders, header: &Header) -> u64
     ensures value { result ≡ placed_pages seen.now.areas header.now }
-    ensures within { result ≤ 4503599627370496 }
+    ensures within { result < 4503599627370496 }
 {
     header.page_count(area_bytes_of(seen, header))
 }

@@ -118,7 +118,7 @@ impl SeenHeaders {
     /// How many pages of 4,096 bytes a header places: an insert as many as its area has.
     pub fn placed_pages(&self, header: &Header) -> u64
         ensures value { result ≡ placed_pages self.now.areas header.now }
-        ensures within { result ≤ 4503599627370496 }
+        ensures within { result < 4503599627370496 }
     {
         placed_pages(self, header)
     }

@@ -93,7 +93,7 @@ impl<'a> ImageView<'a> {
     /// How many pages of 4,096 bytes a header places: an insert as many as its area has.
     pub fn placed_pages(&self, header: &Header) -> u64
         ensures value { result ≡ placed_pages (areas_of (headers_of self.now)) header.now }
-        ensures within { result ≤ 4503599627370496 }
+        ensures within { result < 4503599627370496 }
     {
         self.seen.placed_pages(header)
     }

@@ -7,7 +7,7 @@ use Rattle.igvm_headers.specs.HeaderFacts.{data_pages, gpa_of}
 use Rattle.igvm_headers.specs.Pages.{page_bytes, small_pages}
 use Rattle.igvm_headers.specs.SpellingConditions.{NumbersFit}
 use Rattle.igvm_headers.specs.declared.header.Header.{Header}
-use Rattle.igvm_headers.specs.declared.header.Header.TheVariants.{Platform, Policy, Area, Page, Insert, Param, Context, Required, ErrorRange, IdBlock, Carried}
+use Rattle.igvm_headers.specs.declared.header.Header.TheVariants.{Page, Insert, Context}
 use Rattle.igvm_headers.specs.declared.options.Options.{Options}
 use Rattle.igvm_headers.specs.declared.tag.Tag.{Tag}
 use Rattle.igvm_headers.specs.declared.tag.Tag.TheVariants as tag
@@ -40,16 +40,9 @@ snp_run : (options : Options) (areas : List AreaEntry) (header : Header) (conten
     → pages_from 0 (snp_row options areas header) content
     ≡ map on_snp (snp_pages (tag_of header SevSnp options) (gpa_of header) (placed_pages areas header) content ++ snp_contexts header content)
 snp_run options areas (Context gpa mask offset vp) content = ap (λ (g : ℕ). record { kind = Some snp.Vmsa; gpa = g; bytes = Some (data_page content 0) } ∷ []) (add-zero gpa)
-snp_run options areas (Platform mask highest_vtl kind version shared_gpa) content = refl
-snp_run options areas (Policy policy mask) content = refl
-snp_run options areas (Area bytes area offset) content = refl
 snp_run options areas (Page gpa mask offset large unmeasured kind) content = no_context (tag_of (Page gpa mask offset large unmeasured kind) SevSnp options) gpa (small_pages large) content
 snp_run options areas (Insert gpa mask area) content = no_context (Some tag.Unmeasured) gpa (placed_pages areas (Insert gpa mask area)) content
-snp_run options areas (Param kind area byte_offset) content = refl
-snp_run options areas (Required gpa mask bytes flags) content = refl
-snp_run options areas (ErrorRange gpa mask bytes) content = refl
-snp_run options areas (IdBlock mask author_enabled ld family_id image_id version guest_svn id_algorithm author_algorithm) content = refl
-snp_run options areas (Carried kind length) content = refl
+snp_run options areas header content = refl
 
 tdx_run : (areas : List AreaEntry) (p : PlacedHeader) → pages_from 0 (tdx_row areas p.header) p.content ≡ map on_tdx (tdx_header_measured areas p)
 unfolding tdx_header_measured

@@ -8,7 +8,6 @@ pub mod Written
 pub mod Fronts
 pub mod ReadBackContents
 pub mod ReadBackPages
-pub mod ReadBackBytes
 pub mod ReadBackOffsets
 pub mod ReadBackChecksum
 pub mod ReadBackFront

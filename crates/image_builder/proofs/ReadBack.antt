@@ -15,7 +15,8 @@ use Rattle.image_builder.specs.Layout.{section_size, data_start, kept_contents, 
 use Rattle.image_builder.specs.Plans.{in_version}
 use Rattle.image_builder.proofs.Lengths.{rest_size, length-section, length-layout, length-concat}
 use Rattle.image_builder.proofs.ReadBackContents.{content_at, content_ends, contents_among}
-use Rattle.image_builder.proofs.ReadBackChecksum.{checksum_fits}
+use Rattle.image_builder.proofs.ReadBackOffsets.{OffsetKeeps}
+use Rattle.image_builder.proofs.ReadBackChecksum.{SpelledIsBytes, checksum_fits}
 use Rattle.image_builder.proofs.ReadBackFront.{IsMade, fault_made, placed_made, version_made}
 use Rattle.image_builder.proofs.ReadBackPieces.{SpelledIsAPiece, set_piece, split_written}
 use Rattle.image_builder.proofs.ReadBackData.{HasContents}
@@ -26,6 +27,8 @@ use Rattle.image_builder.proofs.ReadBackHeaders.{SpelledIsRead, OffsetsDoNotCoun
 pub record Laws : Type 0 where
   pub piece : SpelledIsAPiece
   pub read : SpelledIsRead
+  pub bytes : SpelledIsBytes
+  pub keeps : OffsetKeeps
   pub offsets : OffsetsDoNotCount
   pub split : (s rest : List ℕ) (ps : List Piece) → Split s ps rest → (ps ≡ pieces s) × (rest ≡ cut s)
 
@@ -53,11 +56,11 @@ has_contents law list built =
     let within = built.within in
     let start = data_start list in
     let kept = kept_contents list.parts in
-    let behind = contents_behind list (length-section law.piece.padded list) in
+    let behind = contents_behind list (length-section law.piece.padded law.keeps.size list) in
     record {
       front = omega (arith, rest_size list.version);
       small = omega arith;
-      whole = omega (arith, length-layout law.piece.padded list);
+      whole = omega (arith, length-layout law.piece.padded law.keeps.size list);
       ends = λ bytes among. omega (arith, content_ends bytes kept among);
       stands = λ bytes among.
           ap (take (length bytes)) (sym (drop-drop (place_of bytes kept) start (layout list)) ∙ ap (drop (place_of bytes kept)) behind)
@@ -73,18 +76,18 @@ is_made law list built =
     let within = built.within in
     record {
       known = built.is.known;
-      sized = length-section law.piece.padded list;
+      sized = length-section law.piece.padded law.keeps.size list;
       whole = omega (arith, length-concat (kept_contents list.parts));
       small = omega arith;
       sealed = refl;
-      seal_fits = checksum_fits list.version (section_size list.parts) (layout_size list) (data_start list) (kept_contents list.parts) list.parts built.is.valid.fits.each;
+      seal_fits = checksum_fits law.bytes law.keeps list.version (section_size list.parts) (layout_size list) (data_start list) (kept_contents list.parts) list.parts built.is.valid.fits.each;
     }
 
 -- each component is read back
 all_back : Laws → (list : ImageParts) → IsBuilt list
     → AllByRecursion (ReadsBack (layout_size list) (data_start list) (kept_contents list.parts) (layout list)) list.parts
 all_back law list built =
-    all_read_back (layout_size list) (data_start list) (kept_contents list.parts) (layout list) [] list.parts (has_contents law list built) (law.offsets.inside (layout_size list))
+    all_read_back (layout_size list) (data_start list) (kept_contents list.parts) (layout list) [] list.parts law.keeps (has_contents law list built) (law.offsets.inside (layout_size list))
     built.is.valid.kept built.is.valid.fits.each (contents_among list.parts)
 
 -- the section is the written headers, and nothing is left
@@ -107,7 +110,7 @@ accepted_back law list built =
     let split = pieces_are law list built in
     fault_made list.version (section_size list.parts) total (seal_of list) (section list) (data_bytes list.parts) (is_made law list built)
     ∙ ap₂ (λ ps rest. headers_fault total start start [] ps rest) (sym split.0) (sym split.1)
-    ∙ headers_kept law.read law.offsets total (data_start list) (kept_contents list.parts) (layout list) start start [] [] list.parts (all_back law list built) refl
+    ∙ headers_kept law.read law.offsets law.keeps total (data_start list) (kept_contents list.parts) (layout list) start start [] [] list.parts (all_back law list built) refl
     built.is.valid.kept
 
 parts_back : Laws → (list : ImageParts) → IsBuilt list → components_in (layout list) ≡ list.parts

@@ -8,10 +8,17 @@ use Rattle.igvm_headers.specs.Checksum.{shifted, shifted_times, crc_step, crc}
 use Rattle.component_list.specs.declared.component.Component.{Component}
 use Rattle.igvm_headers.specs.Fixed.{fixed_size}
 use Rattle.igvm_headers.specs.HeaderFacts.{with_offset}
-use Rattle.component_list.specs.Ranges.{AreBytes, IsComponent}
+use Rattle.igvm_headers.specs.Spelling.{spelled}
+use Rattle.igvm_headers.specs.SpellingConditions.{AreBytes, ListsAreBytes}
+use Rattle.igvm_headers.specs.declared.header.Header.{Header}
+use Rattle.igvm_headers.proofs.Bytes.{joined, behind, number_bytes, zero_bytes}
+use Rattle.component_list.specs.Ranges.{IsComponent}
 use Rattle.image_builder.specs.Layout.{offset_among, written, magic, fixed_front, fixed_rest}
-use Rattle.image_builder.proofs.ReadBackBytes.{joined, behind, number_bytes, zero_bytes, spelled_bytes}
-use Rattle.image_builder.proofs.ReadBackOffsets.{lists_at}
+use Rattle.image_builder.proofs.ReadBackOffsets.{OffsetKeeps}
+
+-- what is spelled is bytes
+abbrev pub SpelledIsBytes : Type 0
+SpelledIsBytes = (h : Header) (tail : List ℕ) → ListsAreBytes h → AreBytes tail → AreBytes (spelled h tail)
 
 shifted_fits : (state : ℕ) → state < 2 ^ 32 → shifted state < 2 ^ 32
 shifted_fits state fits =
@@ -47,22 +54,22 @@ rest_bytes version =
     elim (version == 2) as (λ b. AreBytes (if b then little_bytes 4 0 ++ little_bytes 4 4096 else []))
     [ true ↦ behind (little_bytes 4 0) 4 4096 (number_bytes 4 0) | false ↦ tt ]
 
-section_bytes : (start : ℕ) (kept : List (List ℕ)) (parts : List Component) → AllByRecursion IsComponent parts
+section_bytes : SpelledIsBytes → OffsetKeeps → (start : ℕ) (kept : List (List ℕ)) (parts : List Component) → AllByRecursion IsComponent parts
     → AreBytes (flat_map (written start kept) parts)
-section_bytes start kept [] all = tt
-section_bytes start kept (c ∷ cs) all =
+section_bytes bytes keeps start kept [] all = tt
+section_bytes bytes keeps start kept (c ∷ cs) all =
     let at = offset_among start kept c.content in
     joined (written start kept c) (flat_map (written start kept) cs)
-    (spelled_bytes (with_offset at c.header) c.tail (lists_at at c.header all.0.lists) all.0.tail)
-    (section_bytes start kept cs all.1)
+    (bytes (with_offset at c.header) c.tail (keeps.lists at c.header all.0.lists) all.0.tail)
+    (section_bytes bytes keeps start kept cs all.1)
 
 -- the checksum over both
-pub checksum_fits : (version size total start : ℕ) (kept : List (List ℕ)) (parts : List Component) → AllByRecursion IsComponent parts
+pub checksum_fits : SpelledIsBytes → OffsetKeeps → (version size total start : ℕ) (kept : List (List ℕ)) (parts : List Component) → AllByRecursion IsComponent parts
     → crc (fixed_front version size total ++ replicate 4 0 ++ fixed_rest version ++ flat_map (written start kept) parts) < 2 ^ 32
-checksum_fits version size total start kept parts all =
+checksum_fits bytes keeps version size total start kept parts all =
     let front = fixed_front version size total in
     let headers = flat_map (written start kept) parts in
     let zeros = joined front (replicate 4 0) (front_bytes version size total) (zero_bytes 4) in
     let fixed = joined (front ++ replicate 4 0) (fixed_rest version) zeros (rest_bytes version) in
     crc_fits (front ++ replicate 4 0 ++ fixed_rest version ++ headers)
-    (joined (front ++ replicate 4 0 ++ fixed_rest version) headers fixed (section_bytes start kept parts all))
+    (joined (front ++ replicate 4 0 ++ fixed_rest version) headers fixed (section_bytes bytes keeps start kept parts all))

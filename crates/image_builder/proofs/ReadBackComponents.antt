@@ -17,7 +17,7 @@ use Rattle.image_builder.specs.Layout.{offset_among}
 use Rattle.image_builder.proofs.Writes.{writes, spellable, skipped}
 use Rattle.image_builder.proofs.ReadBackContents.{IsAmong}
 use Rattle.image_builder.proofs.ReadBackPieces.{set_header}
-use Rattle.image_builder.proofs.ReadBackOffsets.{spellable_at, offset_gone}
+use Rattle.image_builder.proofs.ReadBackOffsets.{OffsetKeeps, offset_gone}
 use Rattle.image_builder.proofs.ReadBackData.{HasContents, offset_fits, inside, content_back}
 
 fits_from : (size : ℕ) (tail : List ℕ) (b : Bool) → not ((length tail == size) && b) ≡ false → b ≡ true
@@ -59,15 +59,15 @@ pub record ReadsBack (total start : ℕ) (kept : List (List ℕ)) (body : List �
   pub header : with_offset 0 (set_header start kept c) ≡ c.header
   pub content : content_of (set_header start kept c) (data_in body (set_header start kept c)) ≡ c.content
 
-pub reads_back : (total start : ℕ) (kept : List (List ℕ)) (body : List ℕ) (seen : Seen) (c : Component) → HasContents total start kept body
+pub reads_back : (total start : ℕ) (kept : List (List ℕ)) (body : List ℕ) (seen : Seen) (c : Component) → OffsetKeeps → HasContents total start kept body
     → ((h : Header) → breaks_data total (with_offset 0 h) ≡ false)
     → component_fault seen c ≡ None → IsComponent c → IsAmong kept c.content → ReadsBack total start kept body c
-reads_back total start kept body seen c has law none is among =
+reads_back total start kept body seen c keeps has law none is among =
     let judged = judged_component seen c none in
     let fits = offset_fits total start kept body c.content has among in
     record {
-      spells = spellable_at (offset_among start kept c.content) c.header c.tail fits (spellable c.header c.tail (writes seen c none) is.numbers);
+      spells = keeps.spellable (offset_among start kept c.content) c.header c.tail fits (spellable c.header c.tail (writes seen c none) is.numbers);
       inside = inside total start kept body c.header c.content has law among judged.fits;
-      header = offset_gone (offset_among start kept c.content) c.header is.offset;
+      header = offset_gone keeps (offset_among start kept c.content) c.header is.offset;
       content = content_back total start kept body c.header c.content has among judged.fits judged.area;
     }

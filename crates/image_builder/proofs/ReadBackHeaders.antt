@@ -25,7 +25,7 @@ use Rattle.component_list.specs.Ranges.{IsComponent}
 use Rattle.image_builder.proofs.ReadBackContents.{IsAmong}
 use Rattle.image_builder.proofs.ReadBackPieces.{set_header, set_piece}
 use Rattle.image_builder.proofs.Writes.{skipped, unbroken}
-use Rattle.image_builder.proofs.ReadBackOffsets.{with_offset-twice}
+use Rattle.image_builder.proofs.ReadBackOffsets.{OffsetKeeps}
 use Rattle.image_builder.proofs.ReadBackData.{HasContents}
 use Rattle.image_builder.proofs.ReadBackComponents.{ReadsBack, reads_back, judged_component}
 
@@ -43,15 +43,15 @@ pub record OffsetsDoNotCount : Type 0 where
 
 -- each component of a valid list is read back
 pub all_read_back : (total start : ℕ) (kept : List (List ℕ)) (body : List ℕ) (before : List Header) (parts : List Component)
-    → HasContents total start kept body → ((h : Header) → breaks_data total (with_offset 0 h) ≡ false)
+    → OffsetKeeps → HasContents total start kept body → ((h : Header) → breaks_data total (with_offset 0 h) ≡ false)
     → fault_behind before parts ≡ None → AllByRecursion IsComponent parts → AllByRecursion (λ c. IsAmong kept c.content) parts
     → AllByRecursion (ReadsBack total start kept body) parts
 unfolding fault_behind
-all_read_back total start kept body before [] has law none are among = tt
-all_read_back total start kept body before (c ∷ cs) has law none are among =
+all_read_back total start kept body before [] keeps has law none are among = tt
+all_read_back total start kept body before (c ∷ cs) keeps has law none are among =
     let first = unbroken (length before) (component_fault (seen_of before) c) (fault_behind (before ++ c.header ∷ []) cs) none in (
-      reads_back total start kept body (seen_of before) c has law first.0 are.0 among.0,
-      all_read_back total start kept body (before ++ c.header ∷ []) cs has law first.1 are.1 among.1,
+      reads_back total start kept body (seen_of before) c keeps has law first.0 are.0 among.0,
+      all_read_back total start kept body (before ++ c.header ∷ []) cs keeps has law first.1 are.1 among.1,
     )
 
 pub all_spell : (total start : ℕ) (kept : List (List ℕ)) (body : List ℕ) (parts : List Component) → AllByRecursion (ReadsBack total start kept body) parts
@@ -68,10 +68,10 @@ Alike now before = map (with_offset 0) now ≡ map (with_offset 0) before
 seen_alike : OffsetsDoNotCount → (now before : List Header) → Alike now before → seen_of now ≡ seen_of before
 seen_alike law now before alike = sym (law.seen 0 now) ∙ ap seen_of alike ∙ law.seen 0 before
 
-alike_more : (now before : List Header) (at : ℕ) (h : Header) → Alike now before → Alike (now ++ with_offset at h ∷ []) (before ++ h ∷ [])
-alike_more now before at h alike =
+alike_more : OffsetKeeps → (now before : List Header) (at : ℕ) (h : Header) → Alike now before → Alike (now ++ with_offset at h ∷ []) (before ++ h ∷ [])
+alike_more keeps now before at h alike =
     map-append (with_offset 0) now (with_offset at h ∷ [])
-    ∙ ap₂ (λ hs g. hs ++ g ∷ []) alike (with_offset-twice at h)
+    ∙ ap₂ (λ hs g. hs ++ g ∷ []) alike (keeps.last at 0 h)
     ∙ sym (map-append (with_offset 0) before (h ∷ []))
 
 judged_set : SpelledIsRead → OffsetsDoNotCount → (total start : ℕ) (kept : List (List ℕ)) (body : List ℕ) (now before : List Header) (c : Component)
@@ -95,19 +95,19 @@ end_kept law start at now before alike none =
     ∙ (skipped (length (platforms_of before) == 0) (fault_in (length before) NoPlatform) None none).0 in
     cond-false (length (platforms_of now) == 0) (Some (fault_at start NoPlatform)) None some
 
-pub headers_kept : SpelledIsRead → OffsetsDoNotCount → (total start : ℕ) (kept : List (List ℕ)) (body : List ℕ) (front at : ℕ)
+pub headers_kept : SpelledIsRead → OffsetsDoNotCount → OffsetKeeps → (total start : ℕ) (kept : List (List ℕ)) (body : List ℕ) (front at : ℕ)
     (now before : List Header) (parts : List Component)
     → AllByRecursion (ReadsBack total start kept body) parts → Alike now before → fault_behind before parts ≡ None
     → headers_fault total front at now (map (set_piece start kept) parts) [] ≡ None
 unfolding headers_fault fault_behind
-headers_kept read law total start kept body front at now before [] all alike none = end_kept law front at now before alike none
-headers_kept read law total start kept body front at now before (c ∷ cs) all alike none =
+headers_kept read law keeps total start kept body front at now before [] all alike none = end_kept law front at now before alike none
+headers_kept read law keeps total start kept body front at now before (c ∷ cs) all alike none =
     let h = set_header start kept c in
     let p = set_piece start kept c in
     let first = unbroken (length before) (component_fault (seen_of before) c) (fault_behind (before ++ c.header ∷ []) cs) none in
     let good = judged_set read law total start kept body now before c all.0 alike first.0 in
     ap (λ j. unless_fault at j (λ header. headers_fault total front (at + size_of p) (now ++ header ∷ []) (map (set_piece start kept) cs) [])) good
-    ∙ headers_kept read law total start kept body front (at + size_of p) (now ++ h ∷ []) (before ++ c.header ∷ []) cs all.1 (alike_more now before _ c.header alike) first.1
+    ∙ headers_kept read law keeps total start kept body front (at + size_of p) (now ++ h ∷ []) (before ++ c.header ∷ []) cs all.1 (alike_more keeps now before _ c.header alike) first.1
 
 -- ---- the list
 

@@ -1,37 +1,18 @@
 -- Headers whose data stand elsewhere.
-use Rattle.std.proofs.Common.{◌≡◌, ℕ, ◌^◌, ◌<◌, List, refl, sym, ap}
+use Rattle.std.proofs.Common.{◌≡◌, ℕ, ◌^◌, ◌<◌, List, ◌∙◌, ap, sym}
 use Rattle.igvm_headers.specs.HeaderFacts.{data_offset, with_offset}
-use Rattle.igvm_headers.specs.SpellingConditions.{IsSpellable}
+use Rattle.igvm_headers.specs.SpellingConditions.{IsSpellable, ListsAreBytes}
 use Rattle.igvm_headers.specs.declared.header.Header.{Header}
-use Rattle.igvm_headers.specs.declared.header.Header.TheVariants.{Area, Page, Context}
-use Rattle.component_list.specs.Ranges.{ListsAreBytes}
+use Rattle.image_builder.proofs.Lengths.{KeepsSize}
 
--- another file offset of 32 bits leaves a header spellable
-pub spellable_at : (at : ℕ) (h : Header) (tail : List ℕ) → at < 2 ^ 32 → IsSpellable h tail → IsSpellable (with_offset at h) tail
-spellable_at at (Area bytes area offset) tail fits s =
-    record { numbers = (s.numbers.0, s.numbers.1, fits); tail_fits = s.tail_fits; large_is_normal = s.large_is_normal; kind_is_carried = s.kind_is_carried }
-spellable_at at (Page gpa mask offset large unmeasured kind) tail fits s =
-    record { numbers = (s.numbers.0, s.numbers.1, fits); tail_fits = s.tail_fits; large_is_normal = s.large_is_normal; kind_is_carried = s.kind_is_carried }
-spellable_at at (Context gpa mask offset vp) tail fits s =
-    record { numbers = (s.numbers.0, s.numbers.1, fits, s.numbers.3); tail_fits = s.tail_fits; large_is_normal = s.large_is_normal; kind_is_carried = s.kind_is_carried }
-spellable_at at h tail fits s = s
+-- what another file offset keeps of a header
+pub record OffsetKeeps : Type 0 where
+  pub size : KeepsSize
+  pub spellable : (at : ℕ) (h : Header) (tail : List ℕ) → at < 2 ^ 32 → IsSpellable h tail → IsSpellable (with_offset at h) tail
+  pub lists : (at : ℕ) (h : Header) → ListsAreBytes h → ListsAreBytes (with_offset at h)
+  pub last : (first second : ℕ) (h : Header) → with_offset second (with_offset first h) ≡ with_offset second h
+  pub own : (h : Header) → with_offset (data_offset h) h ≡ h
 
--- at file offset 0 it is as before, wherever its data stood
-pub with_offset-twice : (at : ℕ) (h : Header) → with_offset 0 (with_offset at h) ≡ with_offset 0 h
-with_offset-twice at (Area bytes area offset) = refl
-with_offset-twice at (Page gpa mask offset large unmeasured kind) = refl
-with_offset-twice at (Context gpa mask offset vp) = refl
-with_offset-twice at h = refl
-
-pub offset_gone : (at : ℕ) (h : Header) → data_offset h ≡ 0 → with_offset 0 (with_offset at h) ≡ h
-offset_gone at (Area bytes area offset) none = ap (λ o. Area bytes area o) (sym none)
-offset_gone at (Page gpa mask offset large unmeasured kind) none = ap (λ o. Page gpa mask o large unmeasured kind) (sym none)
-offset_gone at (Context gpa mask offset vp) none = ap (λ o. Context gpa mask o vp) (sym none)
-offset_gone at h none = refl
-
--- and its lists are bytes as before
-pub lists_at : (at : ℕ) (h : Header) → ListsAreBytes h → ListsAreBytes (with_offset at h)
-lists_at at (Area bytes area offset) lists = tt
-lists_at at (Page gpa mask offset large unmeasured kind) lists = tt
-lists_at at (Context gpa mask offset vp) lists = tt
-lists_at at h lists = lists
+-- at file offset 0 a header that had it is as before, wherever its data stood
+pub offset_gone : OffsetKeeps → (at : ℕ) (h : Header) → data_offset h ≡ 0 → with_offset 0 (with_offset at h) ≡ h
+offset_gone keeps at h none = keeps.last at 0 h ∙ ap (λ o. with_offset o h) (sym none) ∙ keeps.own h

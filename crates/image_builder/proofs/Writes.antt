@@ -3,11 +3,11 @@ use Rattle.std.proofs.Common.{◌≡◌, ℕ, List, [], ◌∷◌, ◌++◌, len
 use Rattle.std.specs.Prelude.{if◌then◌else◌, ◌==◌}
 use Rattle.std.specs.List.{AllByRecursion}
 use Rattle.igvm_headers.specs.Records.Carried.{is_carried}
-use Rattle.igvm_headers.specs.SpellingConditions.{IsSpellable, NumbersFit}
+use Rattle.igvm_headers.specs.SpellingConditions.{IsSpellable, NumbersFit, LargeIsNormal, KindIsCarried}
 use Rattle.igvm_headers.specs.declared.page_kind.PageKind.{PageKind}
 use Rattle.igvm_headers.specs.declared.page_kind.PageKind.TheVariants as page
 use Rattle.igvm_headers.specs.declared.header.Header.{Header}
-use Rattle.igvm_headers.specs.declared.header.Header.TheVariants.{Platform, Policy, Area, Page, Insert, Param, Context, Required, ErrorRange, IdBlock, Carried}
+use Rattle.igvm_headers.specs.declared.header.Header.TheVariants.{Page, Carried}
 use Rattle.igvm_headers.specs.declared.fault.ReadWhat.{ReadWhat}
 use Rattle.igvm_headers.specs.declared.fault.ReadWhat.TheVariants.{UnknownType, Length, DataType}
 use Rattle.igvm_image.specs.HeaderRules.{Seen, seen_of}
@@ -46,31 +46,28 @@ writes seen c none =
 
 large_normal : (large : Bool) (kind : PageKind) → (large && not (is_normal kind)) ≡ false → IsTrue large → kind ≡ page.Normal
 large_normal true page.Normal kept is = refl
-large_normal true page.Secrets kept is = absurd (cc)
-large_normal true page.Cpuid kept is = absurd (cc)
-large_normal true page.CpuidXf kept is = absurd (cc)
-large_normal false kind kept is = absurd (cc)
+large_normal large kind kept is = absurd (cc)
 
 carried : (b : Bool) → not b ≡ false → IsTrue b
 carried true kept = search rules
 carried false kept = absurd (cc)
 
+large_of : (h : Header) → breaks_data_type h ≡ false → LargeIsNormal h
+large_of (Page gpa mask offset large unmeasured kind) normal = large_normal large kind normal
+large_of h normal = tt
+
+carried_of : (h : Header) → is_unknown h ≡ false → KindIsCarried h
+carried_of (Carried kind length') known = carried (is_carried kind) known
+carried_of h known = tt
+
 -- such a header is spelled as it is read, with numbers of its types
 pub spellable : (header : Header) (tail : List ℕ) → Writes header tail → NumbersFit header → IsSpellable header tail
-spellable (Platform mask highest_vtl kind version shared_gpa) tail w fits = record { numbers = fits; tail_fits = w.sized; large_is_normal = tt; kind_is_carried = tt }
-spellable (Policy policy mask) tail w fits = record { numbers = fits; tail_fits = w.sized; large_is_normal = tt; kind_is_carried = tt }
-spellable (Area bytes area offset) tail w fits = record { numbers = fits; tail_fits = w.sized; large_is_normal = tt; kind_is_carried = tt }
-spellable (Page gpa mask offset large unmeasured kind) tail w fits =
-    record { numbers = fits; tail_fits = w.sized; large_is_normal = large_normal large kind w.normal; kind_is_carried = tt }
-spellable (Insert gpa mask area) tail w fits = record { numbers = fits; tail_fits = w.sized; large_is_normal = tt; kind_is_carried = tt }
-spellable (Param kind area byte_offset) tail w fits = record { numbers = fits; tail_fits = w.sized; large_is_normal = tt; kind_is_carried = tt }
-spellable (Context gpa mask offset vp) tail w fits = record { numbers = fits; tail_fits = w.sized; large_is_normal = tt; kind_is_carried = tt }
-spellable (Required gpa mask bytes flags) tail w fits = record { numbers = fits; tail_fits = w.sized; large_is_normal = tt; kind_is_carried = tt }
-spellable (ErrorRange gpa mask bytes) tail w fits = record { numbers = fits; tail_fits = w.sized; large_is_normal = tt; kind_is_carried = tt }
-spellable (IdBlock mask author_enabled ld family_id image_id version guest_svn id_algorithm author_algorithm) tail w fits =
-    record { numbers = fits; tail_fits = w.sized; large_is_normal = tt; kind_is_carried = tt }
-spellable (Carried kind length') tail w fits =
-    record { numbers = fits; tail_fits = w.sized; large_is_normal = tt; kind_is_carried = carried (is_carried kind) w.known }
+spellable header tail w fits = record {
+  numbers = fits;
+  tail_fits = w.sized;
+  large_is_normal = large_of header w.normal;
+  kind_is_carried = carried_of header w.known;
+}
 
 -- a fault that is none
 pub unbroken : (place : ℕ) (fault : Option ReadWhat) (others : Option ListFault) → unless_broken place fault others ≡ None

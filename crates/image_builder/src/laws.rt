@@ -7,7 +7,7 @@ ghost use Rattle.component_list.specs.Lists.{ImageParts};
 ghost use Rattle.image_builder.specs.FirstUse.{bytes_at, bytes_in, IsFirst, IsNew};
 ghost use Rattle.image_builder.specs.Layout.{data_start, kept_contents, layout, layout_size, offset_among, section, section_size};
 
-use igvm_headers::spelled_is_a_piece;
+use igvm_headers::{offset_keeps, spelled_is_a_piece};
 
 /// A layout and its section have as many bytes as their sizes say: where data stand changes nothing
 /// of how many bytes a header takes.
@@ -15,8 +15,9 @@ pub fn layout_has_its_size()
     ensures section { (list : ImageParts) → length (section list) ≡ section_size list.parts }
     ensures layout { (list : ImageParts) → length (layout list) ≡ layout_size list }
 {
-    // A law: nothing runs.
+    // Laws: nothing runs.
     spelled_is_a_piece();
+    offset_keeps();
 }
 
 /// The data are each content once, in the order of first use; and a content stands after the fixed

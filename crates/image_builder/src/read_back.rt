@@ -6,7 +6,7 @@ ghost use Rattle.igvm_image.specs.Headers.{IsAccepted};
 ghost use Rattle.image_builder.specs.Layout.{layout, layout_size};
 
 use component_list::offsets_do_not_count;
-use igvm_headers::{spelled_is_a_piece, spelled_is_read};
+use igvm_headers::{fields_are_bytes, offset_keeps, spelled_is_a_piece, spelled_is_read};
 use igvm_image::laws::one_split;
 
 /// What is built is accepted, and its list is the list that it was built from: its version, and each
@@ -20,6 +20,8 @@ pub fn built_is_read_back()
     // Laws: nothing runs.
     spelled_is_read();
     spelled_is_a_piece();
+    offset_keeps();
+    fields_are_bytes();
     one_split();
     offsets_do_not_count();
 }

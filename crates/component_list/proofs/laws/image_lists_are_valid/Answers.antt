@@ -5,4 +5,4 @@ pub returns-clause-version : goal.returns-clause-version
 returns-clause-version c = image_version_known
 
 pub returns-clause-parts : goal.returns-clause-parts
-returns-clause-parts c = image_list_kept
+returns-clause-parts c = image_list_kept (record { tail = c.what_is_read.ensures.tail; large = c.what_is_read.ensures.large; carried = c.what_is_read.ensures.carried })

@@ -11,6 +11,14 @@ laws c = record {
     behind = c.spelled_is_a_piece.ensures.behind;
   };
   read = record { header = c.spelled_is_read.ensures.header; tail = c.spelled_is_read.ensures.tail };
+  bytes = c.fields_are_bytes.ensures.spelled;
+  keeps = record {
+    size = c.offset_keeps.ensures.size;
+    spellable = c.offset_keeps.ensures.spellable;
+    lists = c.offset_keeps.ensures.lists;
+    last = c.offset_keeps.ensures.last;
+    own = c.offset_keeps.ensures.own;
+  };
   offsets = record {
     seen = c.offsets_do_not_count.ensures.seen;
     rules = c.offsets_do_not_count.ensures.rules;

@@ -3,7 +3,7 @@ use Rattle.component_list.proofs.Equality.{lists_decided}
 use Rattle.component_list.proofs.list.ComponentListPartialEq.eq.Goals as goal
 
 pub returns-then-self-other-clause-exact : goal.returns-then-self-other-clause-exact
-returns-then-self-other-clause-exact c = lists_decided _ _ _ (search rules)
+returns-then-self-other-clause-exact c = lists_decided c.equal_headers_are_one.ensures _ _ _ (search rules)
 
 pub returns-else-self-other-clause-exact : goal.returns-else-self-other-clause-exact
-returns-else-self-other-clause-exact c = lists_decided _ _ _ (search rules)
+returns-else-self-other-clause-exact c = lists_decided c.equal_headers_are_one.ensures _ _ _ (search rules)

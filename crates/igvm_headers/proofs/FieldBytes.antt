@@ -1,9 +1,9 @@
--- What is spelled is bytes.
-use Rattle.std.proofs.Common.{ℕ, zero, suc, ◌^◌, ◌<◌, List, [], ◌∷◌, ◌++◌, length, replicate, arith, lit<}
-use Rattle.std.specs.Int.{byte_at, bytes_low_first}
+-- A header's fields are bytes, and so is what is spelled.
+use Rattle.std.proofs.Common.{ℕ, List, ◌++◌, length, replicate}
 use Rattle.byteorder.specs.Endian.{little_bytes}
 use Rattle.igvm_headers.specs.PlatformKinds.{kind_number}
 use Rattle.igvm_headers.specs.Spelling.{header_fields, header_content, padding_size, spelled}
+use Rattle.igvm_headers.specs.SpellingConditions.{AreBytes, ListsAreBytes}
 use Rattle.igvm_headers.specs.PageKinds.{data_type}
 use Rattle.igvm_headers.specs.HeaderFacts.{header_type}
 use Rattle.igvm_headers.specs.Records.Fields.{reserved}
@@ -19,37 +19,14 @@ use Rattle.igvm_headers.specs.Records.ErrorRange.{error_range_fields}
 use Rattle.igvm_headers.specs.Records.IdBlock.{id_block_fields}
 use Rattle.igvm_headers.specs.declared.header.Header.{Header}
 use Rattle.igvm_headers.specs.declared.header.Header.TheVariants.{Platform, Policy, Area, Page, Insert, Param, Context, Required, ErrorRange, IdBlock, Carried}
-use Rattle.component_list.specs.Ranges.{AreBytes, ListsAreBytes}
-
-pub joined : (xs ys : List ℕ) → AreBytes xs → AreBytes ys → AreBytes (xs ++ ys)
-joined [] ys all more = more
-joined (x ∷ xs) ys all more = (all.0, joined xs ys all.1 more)
-
-a_byte : (k x : ℕ) → byte_at k x < 2 ^ 8
-a_byte zero x = omega arith
-a_byte (suc k) x = omega arith
-
-low_bytes : (i n x : ℕ) → AreBytes (bytes_low_first i n x)
-low_bytes i zero x = tt
-low_bytes i (suc n) x = (a_byte i x, low_bytes (suc i) n x)
-
-pub number_bytes : (n x : ℕ) → AreBytes (little_bytes n x)
-number_bytes n x = low_bytes 0 n x
-
-pub zero_bytes : (n : ℕ) → AreBytes (replicate n 0)
-zero_bytes zero = tt
-zero_bytes (suc n) = (lit< tt, zero_bytes n)
-
--- a number behind others
-pub behind : (xs : List ℕ) (n x : ℕ) → AreBytes xs → AreBytes (xs ++ little_bytes n x)
-behind xs n x all = joined xs (little_bytes n x) all (number_bytes n x)
+use Rattle.igvm_headers.proofs.Bytes.{joined, behind, number_bytes, zero_bytes}
 
 -- a reserved field behind others
 zeros_behind : (xs : List ℕ) (n : ℕ) → AreBytes xs → AreBytes (xs ++ reserved n)
 zeros_behind xs n all = joined xs (reserved n) all (zero_bytes n)
 
 -- a header's fields are bytes where its lists are
-fields_bytes : (h : Header) → ListsAreBytes h → AreBytes (header_fields h)
+pub fields_bytes : (h : Header) → ListsAreBytes h → AreBytes (header_fields h)
 unfolding header_fields platform_fields policy_fields area_fields page_fields insert_fields param_fields context_fields required_fields error_range_fields id_block_fields
 fields_bytes (Platform mask highest_vtl kind version shared_gpa) fits =
     behind (little_bytes 4 mask ++ little_bytes 1 highest_vtl ++ little_bytes 1 (kind_number kind) ++ little_bytes 2 version) 8 shared_gpa
