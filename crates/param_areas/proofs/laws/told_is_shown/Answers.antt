@@ -1,4 +1,5 @@
 use Rattle.std.proofs.Common.{◌∙◌, sym}
+use Rattle.param_areas.proofs.Histories.{declare_told, lent_told, set_told, take_told}
 use Rattle.param_areas.proofs.ByCalls.{open_shown, size_shown, new_shown, count_shown, sizes_shown}
 use Rattle.param_areas.proofs.laws.told_is_shown.Goals as goal
 
@@ -17,3 +18,16 @@ returns-clause-count c = count_shown
 
 pub returns-clause-all : goal.returns-clause-all
 returns-clause-all c = sizes_shown
+
+pub returns-clause-page : goal.returns-clause-page
+returns-clause-page c =
+    λ space told area k j shows within few. lent_told space told area k j within shows few
+
+pub returns-clause-declare : goal.returns-clause-declare
+returns-clause-declare c = declare_told
+
+pub returns-clause-set : goal.returns-clause-set
+returns-clause-set c = λ space told area place value shows fits. set_told space told area place value fits shows
+
+pub returns-clause-take : goal.returns-clause-take
+returns-clause-take c = take_told
