@@ -5,6 +5,7 @@ pub mod Clashes
 pub mod ChainBinding
 pub mod StreamBinding
 pub mod Addresses
+pub mod BadDigests
 pub mod FileBinding
 pub mod RunLemmas
 pub mod PageBytes

@@ -5,6 +5,7 @@ pub mod Hashed
 pub mod PageRows
 pub mod Runs
 pub mod Walks
+pub mod WantedDigest
 pub use Rattle.snp_chain.specs.Chain
 pub use Rattle.tdx_chain.specs.Stream
 pub use Rattle.igvm_image.specs.Headers

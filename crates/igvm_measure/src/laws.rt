@@ -1,5 +1,5 @@
 //! What holds of the digest of every file: a law is a function that does nothing.
-ghost use Rattle.std.specs.Prelude.{◌≡◌, ◌≢◌, ℕ, List, ◌++◌};
+ghost use Rattle.std.specs.Prelude.{◌≡◌, ◌≢◌, ◌↔◌, ℕ, List, ◌++◌, None, Some};
 ghost use Rattle.igvm_image.specs.Headers.{IsAccepted};
 ghost use Rattle.platform_masks.specs.declared.platform.Platform.{Platform};
 ghost use Rattle.igvm_headers.specs.declared.options.Options.{Options};
@@ -9,6 +9,9 @@ ghost use Rattle.igvm_measure.specs.Digests.{digest_of};
 ghost use Rattle.igvm_measure.specs.Measured.{IsFile, bytes_if, has_bytes, measured};
 ghost use Rattle.igvm_measure.specs.Records.{contents_of};
 ghost use Rattle.igvm_measure.specs.Hashed.{hashed, Clash};
+ghost use Rattle.igvm_measure.specs.WantedDigest.{IsBadDigest, wanted_id, bad_digest};
+ghost use Rattle.directive_rules.specs.declared.misfit.IdWanted.{IdWanted};
+ghost use Rattle.directive_rules.specs.declared.misfit.Misfit.{Misfit};
 
 /// Bytes behind an accepted file change no launch digest, for a platform of any kind.
 pub fn trailing_bytes()
@@ -22,6 +25,18 @@ pub fn trailing_bytes()
 pub fn tagged_contents()
     ensures { (tag : Tag) (page : List ℕ)
         → contents_of (bytes_if (has_bytes tag) page) ≡ contents_by tag page }
+{}
+
+/// A file has a bad digest exactly where the ID block that counts wants another launch digest than the
+/// file's, and it names that block and both digests.
+pub fn wanted_digest()
+    ensures some { (file : List ℕ) (platform : Platform) (options : Options) (misfit : Misfit)
+        → ((bad_digest file platform options ≡ Some misfit)
+        ↔ IsBadDigest file platform options misfit) }
+    ensures none { (file : List ℕ) (platform : Platform) (options : Options)
+        → ((bad_digest file platform options ≡ None)
+        ↔ ((id : IdWanted) (digest : List ℕ) → wanted_id file platform ≡ Some id
+        → digest_of file platform options ≡ Some digest → id.wanted ≡ digest)) }
 {}
 
 /// What a launch digest binds, for platforms of one kind: files that measure the same pages have one
