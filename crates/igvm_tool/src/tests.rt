@@ -4,6 +4,7 @@ mod built_images;
 mod faults;
 mod limits;
 mod listings;
+mod loading;
 mod long_listings;
 mod native_zero;
 mod page_bytes;

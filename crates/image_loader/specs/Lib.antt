@@ -1,0 +1,16 @@
+pub mod Loads
+pub mod FilledAreas
+pub mod PlacedPages
+pub mod LoadCommands
+pub mod Fitting
+pub mod Carrying
+pub mod Preparing
+pub mod Loading
+pub mod Sources
+pub use Rattle.launch_platform.specs.Machine
+pub use Rattle.launch_platform.specs.Commands
+pub use Rattle.igvm_measure.specs.Digests
+pub use Rattle.igvm_measure.specs.WantedDigest
+pub use Rattle.directive_rules.specs.FirstMisfit
+pub use Rattle.host_set.specs.Hosts
+pub use Rattle.igvm_headers.specs.FaultCounts
