@@ -1,4 +1,4 @@
-pub mod Fields
+pub mod PageWords
 pub mod Lines
 pub mod Listing
 pub use Rattle.igvm_headers.specs.FaultCounts
@@ -6,5 +6,6 @@ pub use Rattle.igvm_headers.specs.PlatformKinds
 pub use Rattle.igvm_headers.specs.PageKinds
 pub use Rattle.igvm_headers.specs.ParamKinds
 pub use Rattle.igvm_outside.specs.Outputs
+pub use Rattle.line_buffer.specs.Fields
 pub use Rattle.igvm_image.specs.Headers
 pub use Rattle.platform_masks.specs.Platforms

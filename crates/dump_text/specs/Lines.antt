@@ -9,7 +9,8 @@ use Rattle.igvm_headers.specs.declared.param_kind.ParamKind.{ParamKind}
 use Rattle.igvm_headers.specs.PlatformKinds.{kind_text}
 use Rattle.igvm_headers.specs.PageKinds.{page_kind_text}
 use Rattle.igvm_headers.specs.ParamKinds.{param_text}
-use Rattle.dump_text.specs.Fields.{eight_digits, sixteen_digits, byte_digits, size_text, measured_text}
+use Rattle.line_buffer.specs.Fields.{eight_digits, sixteen_digits, byte_digits}
+use Rattle.dump_text.specs.PageWords.{size_text, measured_text}
 
 -- a platform, with its own number
 unfoldable pub platform_text : ℕ → ℕ → ℕ → PlatformKind → ℕ → ℕ → List ℕ

@@ -1,12 +1,12 @@
 //! The text of each kind of header, by its fields: docs/PROGRAM.md, "The listing".
 ghost use Rattle.std.specs.Prelude.{◌≡◌, ℕ, ◌≤◌, ◌+◌, ◌++◌, length};
-ghost use Rattle.dump_text.specs.Fields.{size_text, measured_text};
+ghost use Rattle.dump_text.specs.PageWords.{size_text, measured_text};
 ghost use Rattle.dump_text.specs.Lines.{platform_text, policy_text, area_text, page_text, insert_text, parameter_text, context_text, required_text, error_range_text, id_block_text, carried_text};
 
-use crate::line_buffer::LineBuffer;
 use igvm_headers::{
     Digest, PageKind, ParamKind, PlatformKind, kind_name, page_kind_name, param_name,
 };
+use line_buffer::LineBuffer;
 
 /// A platform, with its own number.
 #[tactic(auto, using(std::proofs::Common::append_assoc), unfolding(crate::specs::Lines::platform_text))]

@@ -1,9 +1,7 @@
 //! The listing of an image, put on an output.
 #![tactic(auto)]
 
-mod fields;
 mod header_texts;
-mod line_buffer;
 mod lines;
 mod printing;
 #[cfg(test)]

@@ -6,9 +6,9 @@ ghost use Rattle.dump_text.specs.Lines.{header_text};
 ghost use Rattle.dump_text.specs.Listing.{added_text, first_line, fixed_line, numbered_line};
 
 use crate::header_texts;
-use crate::line_buffer::LineBuffer;
 use igvm_headers::{FixedHeader, Header};
 use igvm_image::{ImageView, Placed};
+use line_buffer::LineBuffer;
 
 /// 1 for a platform, and 0 for other headers.
 pub(crate) fn platforms_in(header: &Header) -> u32

@@ -4,11 +4,11 @@ ghost use Rattle.igvm_headers.specs.FaultCounts.{HasCause};
 ghost use Rattle.igvm_outside.specs.Outputs.{gained};
 ghost use Rattle.dump_text.specs.Listing.{print_text};
 
-use crate::line_buffer::LineBuffer;
 use crate::lines::{platforms_in, push_first_line, push_line};
 use igvm_headers::Failed;
 use igvm_image::ImageView;
 use igvm_outside::Sink;
+use line_buffer::LineBuffer;
 use platform_masks::platforms_of_more;
 
 /// Puts the listing of an image, many lines a put. It takes no memory.

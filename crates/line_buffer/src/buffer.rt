@@ -14,9 +14,9 @@ const CAPACITY: usize = 16_384;
 /// No line has more bytes.
 const LONGEST: usize = 512;
 
-/// Text that is not put yet. Contracts see its bytes; there is room for 16,384.
+/// Text that is not put yet, in a buffer of fixed size. Contracts see its bytes; there is room for 16,384.
 #[derive(Drop)]
-pub(crate) struct LineBuffer {
+pub struct LineBuffer {
     bytes: [u8; CAPACITY],
     count: usize,
 }
@@ -33,7 +33,7 @@ impl Model for LineBuffer {
 
 impl LineBuffer {
     /// No text.
-    pub(crate) fn new() -> LineBuffer
+    pub fn new() -> LineBuffer
         ensures { result ≡ [] }
     {
         LineBuffer {
@@ -43,7 +43,7 @@ impl LineBuffer {
     }
 
     /// Adds a text.
-    pub(crate) fn push(&mut self, text: &[u8])
+    pub fn push(&mut self, text: &[u8])
         requires { length self.old + length text.now ≤ 16384 }
         ensures { self.new ≡ self.old ++ text.now }
     {
@@ -52,8 +52,8 @@ impl LineBuffer {
         self.count = end;
     }
 
-    /// Adds the digits of some bytes, two a byte.
-    pub(crate) fn push_digits(&mut self, bytes: &[u8])
+    /// Adds the lower-case hexadecimal digits of some bytes, two a byte.
+    pub fn push_digits(&mut self, bytes: &[u8])
         requires { length self.old + 2 * length bytes.now ≤ 16384 }
         ensures text { self.new ≡ self.old ++ encode_lower bytes.now }
         ensures grown { length self.new ≡ length self.old + 2 * length bytes.now }
@@ -63,28 +63,38 @@ impl LineBuffer {
         self.count = end;
     }
 
-    /// Puts all of the text.
-    pub(crate) fn put<O: Sink>(&mut self, out: &mut O) -> Result<(), Failed>
+    /// The text, lent.
+    pub fn bytes(&self) -> &[u8]
+        ensures { result.now ≡ self.now }
+    {
+        &self.bytes[..self.count]
+    }
+
+    /// Puts all of the text, and has none then. At a fault a front of it is put, and all of it is kept.
+    pub fn put<O: Sink>(&mut self, out: &mut O) -> Result<(), Failed>
         ensures put { OnOk result (O.bytes out.new ≡ gained (O.bytes out.old) self.old) }
         ensures emptied { OnOk result (self.new ≡ []) }
         ensures front { OnErr result ((n : ℕ) × (n ≤ length self.old)
             × (O.bytes out.new ≡ gained (O.bytes out.old) (take n self.old))) }
+        ensures kept { OnErr result (self.new ≡ self.old) }
         ensures cause { HasCause (O.faults out.old) (O.faults out.new) result }
         ensures counted { O.faults out.old ≤ O.faults out.new }
     {
-        put_all(out, &self.bytes[..self.count])?;
+        put_all(out, self.bytes())?;
         self.count = 0;
         Ok(())
     }
 
-    /// Puts the text where there is no room for a line behind it.
-    pub(crate) fn make_room<O: Sink>(&mut self, out: &mut O) -> Result<(), Failed>
+    /// Puts the text where there is no room for a line of 512 bytes behind it. At a fault a front of it is put, and
+    /// all of it is kept.
+    pub fn make_room<O: Sink>(&mut self, out: &mut O) -> Result<(), Failed>
         ensures put { OnOk result ((front : List ℕ)
             × (O.bytes out.new ≡ gained (O.bytes out.old) front)
             × (front ++ self.new ≡ self.old)) }
         ensures room { OnOk result (length self.new + 512 ≤ 16384) }
         ensures front { OnErr result ((n : ℕ) × (n ≤ length self.old)
             × (O.bytes out.new ≡ gained (O.bytes out.old) (take n self.old))) }
+        ensures kept { OnErr result (self.new ≡ self.old) }
         ensures cause { HasCause (O.faults out.old) (O.faults out.new) result }
         ensures counted { O.faults out.old ≤ O.faults out.new }
     {

@@ -1,5 +1,5 @@
 -- How the values of a line are written. Numbers of no fixed width are std's `decimal`.
-use Rattle.std.specs.Prelude.{ℕ, List, Bool, true, false, codes}
+use Rattle.std.specs.Prelude.{ℕ, List}
 use Rattle.std.specs.Int.{to_be_bytes, w32, w64}
 use Rattle.hex.specs.Hex.{encode_lower}
 
@@ -14,13 +14,3 @@ eight_digits n = byte_digits (to_be_bytes w32 n)
 -- a number of 64 bits as 16 of them
 unfoldable pub sixteen_digits : ℕ → List ℕ
 sixteen_digits n = byte_digits (to_be_bytes w64 n)
-
--- the size of a page in bytes
-abbrev pub size_text : Bool → List ℕ
-size_text true = codes "2097152"
-size_text false = codes "4096"
-
--- whether a page is measured
-abbrev pub measured_text : Bool → List ℕ
-measured_text true = codes "unmeasured"
-measured_text false = codes "measured"

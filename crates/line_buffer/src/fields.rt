@@ -1,14 +1,14 @@
 //! The parts of a line: a label, and a value in its form.
 ghost use Rattle.std.specs.Prelude.{◌≡◌, ℕ, ◌<◌, ◌≤◌, ◌+◌, ◌*◌, ◌^◌, ◌++◌, length};
 ghost use Rattle.std.specs.Fmt.{decimal};
-ghost use Rattle.dump_text.specs.Fields.{eight_digits, sixteen_digits, byte_digits};
+ghost use Rattle.line_buffer.specs.Fields.{eight_digits, sixteen_digits, byte_digits};
 
-use crate::line_buffer::LineBuffer;
+use crate::buffer::LineBuffer;
 use itoa::Buffer;
 
 impl LineBuffer {
-    /// A label and a word.
-    pub(crate) fn word(&mut self, label: &str, word: &str)
+    /// Adds a label and a word.
+    pub fn word(&mut self, label: &str, word: &str)
         requires { length self.old + length label.now + length word.now ≤ 16384 }
         ensures { self.new ≡ self.old ++ label.now ++ word.now }
     {
@@ -16,8 +16,8 @@ impl LineBuffer {
         self.push(word.as_bytes());
     }
 
-    /// A label and a number, decimal.
-    pub(crate) fn number(&mut self, label: &str, number: u64)
+    /// Adds a label and a number, decimal: at most 20 digits.
+    pub fn number(&mut self, label: &str, number: u64)
         requires { length self.old + length label.now + 20 ≤ 16384 }
         ensures text { self.new ≡ self.old ++ label.now ++ decimal number }
         ensures grown { length self.new ≤ length self.old + length label.now + 20 }
@@ -26,9 +26,9 @@ impl LineBuffer {
         self.word(label, buffer.format(number));
     }
 
-    /// A label and bytes, two digits a byte.
+    /// Adds a label and bytes, two hexadecimal digits a byte.
     #[tactic(auto, unfolding(crate::specs::Fields::byte_digits))]
-    pub(crate) fn digits(&mut self, label: &str, bytes: &[u8])
+    pub fn digits(&mut self, label: &str, bytes: &[u8])
         requires { length self.old + length label.now + 2 * length bytes.now ≤ 16384 }
         ensures text { self.new ≡ self.old ++ label.now ++ byte_digits bytes.now }
         ensures grown { length self.new
@@ -38,9 +38,9 @@ impl LineBuffer {
         self.push_digits(bytes);
     }
 
-    /// A label and a number of 32 bits in 8 digits.
+    /// Adds a label and a number of 32 bits in 8 hexadecimal digits, the highest first.
     #[tactic(auto, unfolding(crate::specs::Fields::eight_digits))]
-    pub(crate) fn eight_digits(&mut self, label: &str, number: u32)
+    pub fn eight_digits(&mut self, label: &str, number: u32)
         requires { length self.old + length label.now + 8 ≤ 16384 }
         ensures text { self.new ≡ self.old ++ label.now ++ eight_digits number }
         ensures grown { length self.new ≡ length self.old + length label.now + 8 }
@@ -48,9 +48,9 @@ impl LineBuffer {
         self.digits(label, &number.to_be_bytes());
     }
 
-    /// A label and a number of 64 bits in 16 digits.
+    /// Adds a label and a number of 64 bits in 16 hexadecimal digits, the highest first.
     #[tactic(auto, unfolding(crate::specs::Fields::sixteen_digits))]
-    pub(crate) fn sixteen_digits(&mut self, label: &str, wide: u64)
+    pub fn sixteen_digits(&mut self, label: &str, wide: u64)
         requires { length self.old + length label.now + 16 ≤ 16384 }
         ensures text { self.new ≡ self.old ++ label.now ++ sixteen_digits wide }
         ensures grown { length self.new ≡ length self.old + length label.now + 16 }

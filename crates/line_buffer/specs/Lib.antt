@@ -1,0 +1,3 @@
+pub mod Fields
+pub use Rattle.igvm_headers.specs.FaultCounts
+pub use Rattle.igvm_outside.specs.Outputs
