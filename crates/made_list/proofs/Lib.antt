@@ -1,0 +1,16 @@
+pub mod PageBytes
+pub mod SeenMore
+pub mod Following
+pub mod Kept
+pub mod Valid
+pub mod Contents
+pub mod Sizes
+pub mod Headers
+pub mod ReadHeaders
+pub mod SameRows
+pub mod Fitting
+pub mod SnpHeaders
+pub mod PageRows
+pub mod MadeFits
+pub mod NoDigest
+pub mod TrialPlan
