@@ -21,7 +21,8 @@ use Rattle.igvm_tool.specs.declared.status.Status.TheVariants as is
 use Rattle.igvm_tool.specs.declared.refusal.Ended.{Ended}
 use Rattle.igvm_tool.specs.declared.refusal.Ended.TheVariants as end
 use Rattle.igvm_tool.specs.declared.refusal.Refusal.{Refusal}
-use Rattle.igvm_tool.specs.declared.refusal.Refusal.TheVariants.{Shelf, Limit}
+use Rattle.igvm_tool.specs.declared.refusal.Refusal.TheVariants.{File, Shelf, Output, Machine, Memory, Platform, Json, Limit}
+use Rattle.igvm_tool.specs.declared.refusal.LimitOf.{LimitOf}
 use Rattle.igvm_tool.specs.declared.refusal.LimitOf.TheVariants as of
 use Rattle.igvm_tool.specs.Texts.{long_list_text, built_text}
 use Rattle.igvm_tool.specs.Outcome.{Outcome, refused, done_writing}
@@ -30,7 +31,7 @@ use Rattle.igvm_tool.specs.BuildJob.{build_task, text_outcome, source_outcome, e
 use Rattle.igvm_tool.specs.Refusals.{Refuses}
 use Rattle.igvm_tool.specs.ListRefusals.{IsOfList, IsOfExpansion}
 use Rattle.igvm_tool.specs.Clauses.{HaveFront}
-use Rattle.igvm_tool.specs.Endings.{Ends, Stops, PutsEnd}
+use Rattle.igvm_tool.specs.Endings.{IsNotRead, Ends, Stops, PutsEnd}
 use Rattle.igvm_tool.proofs.EndingLemmas.{Known, failed_stops, memory_stops, refused_stops, text_ends}
 
 -- ---- counts
@@ -66,6 +67,19 @@ pub long_list_stops : {S : Type 0} {s : shelves.Ghosts S} (list target : List �
 long_list_stops {S} {s} list target {shelf} {shelf'} long kept unwritten =
     refused_stops (build_task list target) (refused is.Limit long_list_text) (Limit of.List) refl
     (record { told = long_told (s.told shelf) list target long.file; can = inl (long.given, refl) }) kept unwritten
+
+-- the text of a list was not read
+pub not_read_stops : {S : Type 0} {s : shelves.Ghosts S} (list target : List ℕ) (r : Refusal) {shelf shelf' : S}
+    → IsNotRead s list list_limit of.List r shelf shelf' → OnlyReads s shelf shelf' → IsUnwritten (s.state shelf') → Stops s (build_task list target) r shelf shelf'
+not_read_stops list target (File text) h k unwritten = absurd h
+not_read_stops list target Shelf h k unwritten = failed_stops (build_task list target) list (inl refl) h k.kept unwritten
+not_read_stops list target Output h k unwritten = absurd h
+not_read_stops list target Machine h k unwritten = absurd h
+not_read_stops list target Memory h k unwritten = memory_stops (build_task list target) k.kept unwritten
+not_read_stops list target (Platform text) h k unwritten = absurd h
+not_read_stops list target (Json text) h k unwritten = absurd h
+not_read_stops {S} {s} list target (Limit passed) {shelf} {shelf'} h k unwritten =
+    subst (λ (limit : LimitOf). Stops s (build_task list target) (Limit limit) shelf shelf') (sym h.0) (long_list_stops list target h.1 k.kept unwritten)
 
 -- a text within its limit is judged as it is read
 pub text_read : (files : Files) (target bytes : List ℕ) (source : Result Source ListRefusal) → length bytes ≤ list_limit → source_of bytes ≡ source
@@ -209,10 +223,11 @@ unwritten_ends {S} {O} {s} {o} mid list target parts image pieces {shelf} {shelf
       output = refl;
       files = front_files (s.told shelf) (s.told shelf') target image (built_text (length image))
           (subst (λ told. (s.told shelf' ≡ told) ⊎ HoldsFront told (s.told shelf') target image) k.kept (subst (λ b. (s.told shelf' ≡ s.told mid) ⊎ HoldsFront (s.told mid) (s.told shelf') target b) same front));
-      unwritten = unwritten;
+      unwritten = λ u. unwritten;
     }
 
-whole_front : (told told' : Option Files) (target image : List ℕ) → told' ≡ with_file told target image → HaveFront told told' (Some (record { name = target; bytes = image }))
+-- a file that is written whole has a front written
+pub whole_front : (told told' : Option Files) (target image : List ℕ) → told' ≡ with_file told target image → HaveFront told told' (Some (record { name = target; bytes = image }))
 whole_front told told' target image same = (length image, (omega arith), same ∙ ap (with_file told target) (sym (take_all (length image) image (omega arith))))
 
 -- the file was written, and the line is put

@@ -6,12 +6,13 @@ use Rattle.std.specs.Option.{option_map}
 use Rattle.std.proofs.lemmas.List.{length-replicate}
 use Rattle.igvm_image.specs.FileFault.{fault_of}
 use Rattle.igvm_outside.specs.Files.{Files, IsUnwritten, content}
-use Rattle.igvm_outside.specs.ShelfCalls.{IsRead, IsLonger}
+use Rattle.igvm_outside.specs.ShelfCalls.{IsRead, IsLonger, OnlyReads}
 use Rattle.igvm_outside.specs.declared.shelf.Shelf as shelves
 use Rattle.igvm_outside.specs.declared.sink.Sink as sinks
 use Rattle.igvm_tool.specs.declared.status.Status.TheVariants as is
 use Rattle.igvm_tool.specs.declared.refusal.Refusal.{Refusal}
-use Rattle.igvm_tool.specs.declared.refusal.Refusal.TheVariants.{Limit}
+use Rattle.igvm_tool.specs.declared.refusal.Refusal.TheVariants.{File, Shelf, Output, Machine, Memory, Platform, Json, Limit}
+use Rattle.igvm_tool.specs.declared.refusal.LimitOf.{LimitOf}
 use Rattle.igvm_tool.specs.declared.refusal.LimitOf.TheVariants as of
 use Rattle.igvm_tool.specs.declared.refusal.Ended.{Ended}
 use Rattle.igvm_tool.specs.declared.refusal.Ended.TheVariants as end
@@ -20,18 +21,18 @@ use Rattle.igvm_tool.specs.Outcome.{Outcome, refused}
 use Rattle.igvm_tool.specs.ImageFiles.{bytes_outcome, image_outcome, file_outcome, file_limit, file_task}
 use Rattle.igvm_tool.specs.Refusals.{Refuses, ended_outcome, ended_status}
 use Rattle.igvm_tool.specs.Clauses.{with_written, FilesAreKept}
-use Rattle.igvm_tool.specs.Endings.{Ends, Stops, PutsEnd}
-use Rattle.igvm_tool.proofs.EndingLemmas.{refused_stops, text_ends}
+use Rattle.igvm_tool.specs.Endings.{IsNotRead, Ends, Stops, PutsEnd}
+use Rattle.igvm_tool.proofs.EndingLemmas.{failed_stops, memory_stops, refused_stops, text_ends}
 
 passes : (a b : ℕ) → a < b → nat_lt a b ≡ true
 passes a b h = grind arith
 
-long_bytes : (next : List ℕ → Outcome) (bytes : List ℕ) → file_limit < length bytes → refused is.Limit long_file_text ≡ bytes_outcome next bytes
+pub long_bytes : (next : List ℕ → Outcome) (bytes : List ℕ) → file_limit < length bytes → refused is.Limit long_file_text ≡ bytes_outcome next bytes
 unfolding bytes_outcome
 long_bytes next bytes h =
     sym (ap (λ b. if b then refused is.Limit long_file_text else image_outcome next bytes (fault_of bytes)) (passes file_limit (length bytes) h))
 
-long_found : (next : List ℕ → Outcome) (found : Option (List ℕ)) → file_limit < length (unwrap_or found []) → refused is.Limit long_file_text ≡ file_outcome next found
+pub long_found : (next : List ℕ → Outcome) (found : Option (List ℕ)) → file_limit < length (unwrap_or found []) → refused is.Limit long_file_text ≡ file_outcome next found
 long_found next None h = absurd (omega arith)
 long_found next (Some bytes) h = long_bytes next bytes h
 
@@ -48,6 +49,19 @@ long_stops {S} {s} next file {shelf} {shelf'} long kept unwritten =
     refused_stops (file_task file next) (refused is.Limit long_file_text) (Limit of.File) refl
     (record { told = long_told next (s.told shelf) file long.file; can = (replicate (s.given shelf') 0, same, long_bytes next _ (subst (λ n. file_limit < n) (sym same) long.given)) })
     kept unwritten
+
+-- a file was not read
+pub not_read_stops : {S : Type 0} {s : shelves.Ghosts S} (next : List ℕ → Outcome) (file : List ℕ) (r : Refusal) {shelf shelf' : S}
+    → IsNotRead s file file_limit of.File r shelf shelf' → OnlyReads s shelf shelf' → IsUnwritten (s.state shelf') → Stops s (file_task file next) r shelf shelf'
+not_read_stops next file (File text) h k unwritten = absurd h
+not_read_stops next file Shelf h k unwritten = failed_stops (file_task file next) file refl h k.kept unwritten
+not_read_stops next file Output h k unwritten = absurd h
+not_read_stops next file Machine h k unwritten = absurd h
+not_read_stops next file Memory h k unwritten = memory_stops (file_task file next) k.kept unwritten
+not_read_stops next file (Platform text) h k unwritten = absurd h
+not_read_stops next file (Json text) h k unwritten = absurd h
+not_read_stops {S} {s} next file (Limit passed) {shelf} {shelf'} h k unwritten =
+    subst (λ (limit : LimitOf). Stops s (file_task file next) (Limit limit) shelf shelf') (sym h.0) (long_stops next file h.1 k.kept unwritten)
 
 found_told : (next : List ℕ → Outcome) (told : Option Files) (file bytes : List ℕ) → IfSome told (λ files. map.get files file ≡ Some bytes)
     → IfSome told (λ files. bytes_outcome next bytes ≡ file_outcome next (map.get files file))

@@ -15,18 +15,21 @@ use Rattle.image_builder.specs.Layout.{layout}
 use Rattle.igvm_outside.specs.Files.{Files}
 use Rattle.igvm_outside.specs.declared.shelf.Shelf as shelves
 use Rattle.igvm_outside.specs.declared.sink.Sink as sinks
+use Rattle.launch_platform.specs.declared.launch.Launch as launches
 use Rattle.igvm_tool.specs.declared.status.Status.{Status}
 use Rattle.igvm_tool.specs.declared.status.Status.TheVariants as is
-use Rattle.igvm_tool.specs.Words.{Job, Build, Print, Measure, MeasureWords}
+use Rattle.igvm_words.specs.Words.{Job, Build, Print, Measure, MeasureWords, Make}
 use Rattle.igvm_tool.specs.Texts.{long_file_text, fault_text, no_platform_text, no_digest_text, digest_text, large_image_text, built_text}
 use Rattle.igvm_tool.specs.Outcome.{Outcome, refused, done, done_writing}
 use Rattle.igvm_tool.specs.ImageFiles.{bytes_outcome, image_outcome, file_limit, IsOfBytes}
 use Rattle.igvm_tool.specs.PrintJob.{listed}
 use Rattle.igvm_tool.specs.MeasureJob.{measured, wanted_platform, platform_digest, platform_outcome, digest_outcome, measured_for}
 use Rattle.igvm_tool.specs.BuildJob.{parts_outcome, list_refused, expand_refused, image_limit, CanBuild, IsGivenTo}
+use Rattle.igvm_tool.specs.MakeJob.{made_outcome}
 use Rattle.igvm_tool.specs.Jobs.{task_of, outcome_of}
-use Rattle.igvm_tool.specs.Clauses.{OutputIsKept, ErrorTextIsPut, FilesAreKept, Gains, IsPut, ShelfFailed, OutFailed, KeepsPromises}
-use Rattle.igvm_tool.specs.JobAnswers.{FollowsFiles, IsHalted, IsImage, IsFileRefused, PrintAnswers, HasDigest, MeasureAnswers, IsJsonText, IsLimitText, BuildAnswers}
+use Rattle.igvm_tool.specs.Clauses.{OutputIsKept, ErrorTextIsPut, FilesAreKept, FilesEndAs, Gains, IsPut, Failures, failures, FaultsHaveCauses, MachineEndsAs, KeepsPromises}
+use Rattle.igvm_tool.proofs.EndingLemmas.{late_kept}
+use Rattle.igvm_tool.specs.JobAnswers.{FollowsFiles, IsHalted, IsImage, IsFileRefused, PrintAnswers, HasDigest, MeasureAnswers, IsJsonText, IsLimitText, BuildAnswers, MakeAnswers}
 
 -- ---- over files that are told
 
@@ -35,32 +38,37 @@ status_of_told : (x : Outcome) (status : Status) (can : Type 0) → ((status ≡
 status_of_told x status can (inl h) = inl h.0
 status_of_told x status can (inr h) = inr h
 
-held : {S O E : Type 0} (s : shelves.Ghosts S) (o : sinks.Ghosts O) (e : sinks.Ghosts E) (job : Option Job) (status : Status) (shelf shelf' : S) (out out' : O) (err err' : E) (files : Files)
-    (k : KeepsPromises s o e job status shelf shelf' out out' err err') → k.outcome ≡ outcome_of job files → FollowsFiles s o e job status shelf shelf' out out' err err' files
-held s o e job status shelf shelf' out out' err err' files k same =
+held : {S O E L : Type 0} (s : shelves.Ghosts S) (o : sinks.Ghosts O) (e : sinks.Ghosts E) (l : launches.Ghosts L) (job : Option Job) (status : Status) (shelf shelf' : S) (out out' : O) (err err' : E)
+    (machine machine' : L) (files : Files) (k : KeepsPromises s o e l job status shelf shelf' out out' err err' machine machine') → k.outcome ≡ outcome_of job files
+    → FollowsFiles s o e l job status shelf shelf' out out' err err' machine machine' files
+held s o e l job status shelf shelf' out out' err err' machine machine' files k same =
+    let failed = failures s o l (task_of job) shelf shelf' out out' machine machine' in
     record {
       status_is = subst (λ (x : Outcome). (status ≡ x.status) ⊎ (status ≡ is.Outside) ⊎ (status ≡ is.Memory)) same (status_of_told k.outcome status _ k.judged);
       output = subst (λ (x : Outcome). OutputIsKept o x status out out') same k.output;
-      error = subst (λ (x : Outcome). ErrorTextIsPut e x status err err' (ShelfFailed s (task_of job) x shelf shelf') (OutFailed o (task_of job) (s.given shelf') x out out')) same k.error;
-      written = subst (λ (x : Outcome). FilesAreKept x status (s.told shelf) (s.told shelf')) same k.files;
-      faults = subst (λ (x : Outcome). status ≡ is.Outside → ShelfFailed s (task_of job) x shelf shelf' ⊎ OutFailed o (task_of job) (s.given shelf') x out out') same k.faults;
+      error = subst (λ (x : Outcome). ErrorTextIsPut e x status (failed x) err err') same k.error;
+      written = subst (λ (x : Outcome). FilesEndAs x status (task_of job).early (s.told shelf) (s.told shelf')) same k.files;
+      launch = subst (λ (x : Outcome). MachineEndsAs l (task_of job).launches x status (failed x) machine machine') same k.launch;
+      faults = subst (λ (x : Outcome). FaultsHaveCauses status (failed x)) same k.faults;
     }
 
 where_told : (told : Option Files) (x : Outcome) (given : Files → Outcome) (P : Files → Type 0) → IfSome told (λ files. x ≡ given files) → ((files : Files) → x ≡ given files → P files) → IfSome told P
 where_told None x given P same holds = tt
 where_told (Some files) x given P same holds = holds files same
 
-pub told_decide : {S O E : Type 0} (s : shelves.Ghosts S) (o : sinks.Ghosts O) (e : sinks.Ghosts E) (job : Option Job) (status : Status) (shelf shelf' : S) (out out' : O) (err err' : E)
-    → KeepsPromises s o e job status shelf shelf' out out' err err' → IfSome (s.told shelf) (FollowsFiles s o e job status shelf shelf' out out' err err')
-told_decide s o e job status shelf shelf' out out' err err' k =
-    where_told (s.told shelf) k.outcome (outcome_of job) _ k.told (λ files same. held s o e job status shelf shelf' out out' err err' files k same)
+pub told_decide : {S O E L : Type 0} (s : shelves.Ghosts S) (o : sinks.Ghosts O) (e : sinks.Ghosts E) (l : launches.Ghosts L) (job : Option Job) (status : Status) (shelf shelf' : S) (out out' : O)
+    (err err' : E) (machine machine' : L) → KeepsPromises s o e l job status shelf shelf' out out' err err' machine machine'
+    → IfSome (s.told shelf) (FollowsFiles s o e l job status shelf shelf' out out' err err' machine machine')
+told_decide s o e l job status shelf shelf' out out' err err' machine machine' k =
+    where_told (s.told shelf) k.outcome (outcome_of job) _ k.told
+    (λ files same. held s o e l job status shelf shelf' out out' err err' machine machine' files k same)
 
 -- ---- what is put with a status
 
 -- a refusal's line
-line_put : {E : Type 0} (e : sinks.Ghosts E) (x : Outcome) (status : Status) (err err' : E) (a b : Type 0) (st : Status) → status ≡ st → (ErrorTextIsPut e x st err err' a b → IsPut e x.err err err')
-    → ErrorTextIsPut e x status err err' a b → IsPut e x.err err err'
-line_put e x status err err' a b st same put error = put (subst (λ (q : Status). ErrorTextIsPut e x q err err' a b) same error)
+line_put : {E : Type 0} (e : sinks.Ghosts E) (x : Outcome) (status : Status) (err err' : E) (failed : Failures) (st : Status) → status ≡ st → (ErrorTextIsPut e x st failed err err' → IsPut e x.err err err')
+    → ErrorTextIsPut e x status failed err err' → IsPut e x.err err err'
+line_put e x status err err' failed st same put error = put (subst (λ (q : Status). ErrorTextIsPut e x q failed err err') same error)
 
 -- the text of a job that is done
 text_put : {O : Type 0} (o : sinks.Ghosts O) (x : Outcome) (status : Status) (out out' : O) → status ≡ is.Done → OutputIsKept o x status out out' → Gains o x.out out out'
@@ -99,12 +107,12 @@ abbrev FileAnswer : (List ℕ → Outcome) → Status → ℕ → Outcome → (L
 FileAnswer next status given x put =
     IsHalted status ⊎ IsFileRefused status given put ⊎ ((bytes : List ℕ) × IsImage bytes given × (x ≡ next bytes) × (status ≡ x.status))
 
-of_judged : {E : Type 0} (e : sinks.Ghosts E) (next : List ℕ → Outcome) (status : Status) (given : ℕ) (x : Outcome) (err err' : E) (a b : Type 0) (bytes : List ℕ)
-    → ErrorTextIsPut e x status err err' a b → status ≡ x.status → length bytes ≡ given → Judged next bytes x → FileAnswer next status given x (λ text. IsPut e text err err')
-of_judged e next status given x err err' a b bytes error same size (inl h) =
+of_judged : {E : Type 0} (e : sinks.Ghosts E) (next : List ℕ → Outcome) (status : Status) (given : ℕ) (x : Outcome) (err err' : E) (failed : Failures) (bytes : List ℕ)
+    → ErrorTextIsPut e x status failed err err' → status ≡ x.status → length bytes ≡ given → Judged next bytes x → FileAnswer next status given x (λ text. IsPut e text err err')
+of_judged e next status given x err err' failed bytes error same size (inl h) =
     let st = same ∙ ap (λ (y : Outcome). y.status) h.1 in
-    inr (inl (inl (st, subst (λ n. file_limit < n) size h.0, subst (λ (y : Outcome). IsPut e y.err err err') h.1 (line_put e x status err err' a b is.Limit st (λ p. p) error))))
-of_judged e next status given x err err' a b bytes error same size (inr (inl h)) =
+    inr (inl (inl (st, subst (λ n. file_limit < n) size h.0, subst (λ (y : Outcome). IsPut e y.err err err') h.1 (line_put e x status err err' failed is.Limit st (λ p. p) error))))
+of_judged e next status given x err err' failed bytes error same size (inr (inl h)) =
     let st = same ∙ ap (λ (y : Outcome). y.status) h.3 in
     inr (inl (inr (
       st,
@@ -112,17 +120,17 @@ of_judged e next status given x err err' a b bytes error same size (inr (inl h))
         bytes,
         h.0,
         record { size = size; within = subst (λ n. n ≤ file_limit) size h.1; broken = h.2 },
-        subst (λ (y : Outcome). IsPut e y.err err err') h.3 (line_put e x status err err' a b is.File st (λ p. p) error),
+        subst (λ (y : Outcome). IsPut e y.err err err') h.3 (line_put e x status err err' failed is.File st (λ p. p) error),
       ),
     )))
-of_judged e next status given x err err' a b bytes error same size (inr (inr h)) =
+of_judged e next status given x err err' failed bytes error same size (inr (inr h)) =
     inr (inr (bytes, record { size = size; within = subst (λ n. n ≤ file_limit) size h.0; accepted = h.1 }, h.2, same))
 
-file_answer : {E : Type 0} (e : sinks.Ghosts E) (next : List ℕ → Outcome) (status : Status) (given : ℕ) (x : Outcome) (err err' : E) (a b : Type 0)
-    → ((status ≡ x.status) × IsOfBytes next given x) ⊎ (status ≡ is.Outside) ⊎ (status ≡ is.Memory) → ErrorTextIsPut e x status err err' a b
+file_answer : {E : Type 0} (e : sinks.Ghosts E) (next : List ℕ → Outcome) (status : Status) (given : ℕ) (x : Outcome) (err err' : E) (failed : Failures)
+    → ((status ≡ x.status) × IsOfBytes next given x) ⊎ (status ≡ is.Outside) ⊎ (status ≡ is.Memory) → ErrorTextIsPut e x status failed err err'
     → FileAnswer next status given x (λ text. IsPut e text err err')
-file_answer e next status given x err err' a b (inl h) error = of_judged e next status given x err err' a b h.1.0 error h.0 h.1.1 (judged next h.1.0 x h.1.2)
-file_answer e next status given x err err' a b (inr h) error = inl h
+file_answer e next status given x err err' failed (inl h) error = of_judged e next status given x err err' failed h.1.0 error h.0 h.1.1 (judged next h.1.0 x h.1.2)
+file_answer e next status given x err err' failed (inr h) error = inl h
 
 -- ---- `print`
 
@@ -139,10 +147,11 @@ print_of o e status given x out out' err err' output (inr (inr h)) =
     let st = h.3 ∙ ap (λ (y : Outcome). y.status) is_done in
     inr (inr (st, (h.0, h.1, subst (λ (y : Outcome). Gains o y.out out out') is_done (text_put o x status out out' st output))))
 
-pub print_answers : {S O E : Type 0} (s : shelves.Ghosts S) (o : sinks.Ghosts O) (e : sinks.Ghosts E) (file : List ℕ) (status : Status) (shelf shelf' : S) (out out' : O) (err err' : E)
-    → KeepsPromises s o e (Some (Print file)) status shelf shelf' out out' err err' → PrintAnswers status (s.given shelf') (λ text. Gains o text out out') (λ text. IsPut e text err err')
-print_answers s o e file status shelf shelf' out out' err err' k =
-    print_of o e status (s.given shelf') k.outcome out out' err err' k.output (file_answer e listed status (s.given shelf') k.outcome err err' _ _ k.judged k.error)
+pub print_answers : {S O E L : Type 0} (s : shelves.Ghosts S) (o : sinks.Ghosts O) (e : sinks.Ghosts E) (l : launches.Ghosts L) (file : List ℕ) (status : Status) (shelf shelf' : S) (out out' : O)
+    (err err' : E) (machine machine' : L) → KeepsPromises s o e l (Some (Print file)) status shelf shelf' out out' err err' machine machine'
+    → PrintAnswers status (s.given shelf') (λ text. Gains o text out out') (λ text. IsPut e text err err')
+print_answers s o e l file status shelf shelf' out out' err err' machine machine' k =
+    print_of o e status (s.given shelf') k.outcome out out' err err' k.output (file_answer e listed status (s.given shelf') k.outcome err err' _ k.judged k.error)
 
 -- ---- `measure`
 
@@ -155,7 +164,7 @@ Measured words bytes x =
     ⊎ ((digest : List ℕ) × HasDigest words bytes digest × (x ≡ done (digest_text digest)))
 
 by_digest : (words : MeasureWords) (bytes : List ℕ) (x : Outcome) (platform : Platform) (digest : Option (List ℕ)) → wanted_platform bytes words.wanted ≡ Some platform
-    → platform_digest bytes words.options platform ≡ digest → x ≡ digest_outcome platform.kind digest → Measured words bytes x
+    → platform_digest bytes words.options platform ≡ digest → x ≡ digest_outcome platform.kind (λ found. done (digest_text found)) digest → Measured words bytes x
 by_digest words bytes x platform None found same is = inr (inl (platform, found, same, is))
 by_digest words bytes x platform (Some digest) found same is = inr (inr (digest, (platform, found, same), is))
 
@@ -168,33 +177,33 @@ measured_is : (words : MeasureWords) (bytes : List ℕ) (x : Outcome) → x ≡ 
 unfolding measured
 measured_is words bytes x same = by_platform words bytes x _ refl same
 
-measure_of : {O E : Type 0} (o : sinks.Ghosts O) (e : sinks.Ghosts E) (words : MeasureWords) (status : Status) (given : ℕ) (x : Outcome) (out out' : O) (err err' : E) (a b : Type 0) (bytes : List ℕ)
-    → OutputIsKept o x status out out' → ErrorTextIsPut e x status err err' a b → IsImage bytes given → status ≡ x.status → Measured words bytes x
+measure_of : {O E : Type 0} (o : sinks.Ghosts O) (e : sinks.Ghosts E) (words : MeasureWords) (status : Status) (given : ℕ) (x : Outcome) (out out' : O) (err err' : E) (failed : Failures) (bytes : List ℕ)
+    → OutputIsKept o x status out out' → ErrorTextIsPut e x status failed err err' → IsImage bytes given → status ≡ x.status → Measured words bytes x
     → MeasureAnswers words status given (λ text. Gains o text out out') (λ text. IsPut e text err err')
-measure_of o e words status given x out out' err err' a b bytes output error image same (inl h) =
+measure_of o e words status given x out out' err err' failed bytes output error image same (inl h) =
     let st = same ∙ ap (λ (y : Outcome). y.status) h.1 in
-    inr (inr (inl (st, (bytes, image, inl (h.0, subst (λ (y : Outcome). IsPut e y.err err err') h.1 (line_put e x status err err' a b is.Platform st (λ p. p) error))))))
-measure_of o e words status given x out out' err err' a b bytes output error image same (inr (inl h)) =
+    inr (inr (inl (st, (bytes, image, inl (h.0, subst (λ (y : Outcome). IsPut e y.err err err') h.1 (line_put e x status err err' failed is.Platform st (λ p. p) error))))))
+measure_of o e words status given x out out' err err' failed bytes output error image same (inr (inl h)) =
     let st = same ∙ ap (λ (y : Outcome). y.status) h.3 in
-    inr (inr (inl (st, (bytes, image, inr (h.0, h.1, h.2, subst (λ (y : Outcome). IsPut e y.err err err') h.3 (line_put e x status err err' a b is.Platform st (λ p. p) error))))))
-measure_of o e words status given x out out' err err' a b bytes output error image same (inr (inr h)) =
+    inr (inr (inl (st, (bytes, image, inr (h.0, h.1, h.2, subst (λ (y : Outcome). IsPut e y.err err err') h.3 (line_put e x status err err' failed is.Platform st (λ p. p) error))))))
+measure_of o e words status given x out out' err err' failed bytes output error image same (inr (inr h)) =
     let st = same ∙ ap (λ (y : Outcome). y.status) h.2 in
     inr (inr (inr (st, (bytes, h.0, image, h.1, subst (λ (y : Outcome). Gains o y.out out out') h.2 (text_put o x status out out' st output)))))
 
-measure_file : {O E : Type 0} (o : sinks.Ghosts O) (e : sinks.Ghosts E) (words : MeasureWords) (status : Status) (given : ℕ) (x : Outcome) (out out' : O) (err err' : E) (a b : Type 0)
-    → OutputIsKept o x status out out' → ErrorTextIsPut e x status err err' a b → FileAnswer (measured words.wanted words.options) status given x (λ text. IsPut e text err err')
+measure_file : {O E : Type 0} (o : sinks.Ghosts O) (e : sinks.Ghosts E) (words : MeasureWords) (status : Status) (given : ℕ) (x : Outcome) (out out' : O) (err err' : E) (failed : Failures)
+    → OutputIsKept o x status out out' → ErrorTextIsPut e x status failed err err' → FileAnswer (measured words.wanted words.options) status given x (λ text. IsPut e text err err')
     → MeasureAnswers words status given (λ text. Gains o text out out') (λ text. IsPut e text err err')
-measure_file o e words status given x out out' err err' a b output error (inl h) = inl h
-measure_file o e words status given x out out' err err' a b output error (inr (inl h)) = inr (inl h)
-measure_file o e words status given x out out' err err' a b output error (inr (inr h)) =
-    measure_of o e words status given x out out' err err' a b h.0 output error h.1 h.3 (measured_is words h.0 x h.2)
+measure_file o e words status given x out out' err err' failed output error (inl h) = inl h
+measure_file o e words status given x out out' err err' failed output error (inr (inl h)) = inr (inl h)
+measure_file o e words status given x out out' err err' failed output error (inr (inr h)) =
+    measure_of o e words status given x out out' err err' failed h.0 output error h.1 h.3 (measured_is words h.0 x h.2)
 
-pub measure_answers : {S O E : Type 0} (s : shelves.Ghosts S) (o : sinks.Ghosts O) (e : sinks.Ghosts E) (words : MeasureWords) (status : Status) (shelf shelf' : S) (out out' : O) (err err' : E)
-    → KeepsPromises s o e (Some (Measure words)) status shelf shelf' out out' err err'
+pub measure_answers : {S O E L : Type 0} (s : shelves.Ghosts S) (o : sinks.Ghosts O) (e : sinks.Ghosts E) (l : launches.Ghosts L) (words : MeasureWords) (status : Status) (shelf shelf' : S) (out out' : O)
+    (err err' : E) (machine machine' : L) → KeepsPromises s o e l (Some (Measure words)) status shelf shelf' out out' err err' machine machine'
     → MeasureAnswers words status (s.given shelf') (λ text. Gains o text out out') (λ text. IsPut e text err err')
-measure_answers s o e words status shelf shelf' out out' err err' k =
-    measure_file o e words status (s.given shelf') k.outcome out out' err err' _ _ k.output k.error
-    (file_answer e (measured words.wanted words.options) status (s.given shelf') k.outcome err err' _ _ k.judged k.error)
+measure_answers s o e l words status shelf shelf' out out' err err' machine machine' k =
+    measure_file o e words status (s.given shelf') k.outcome out out' err err' _ k.output k.error
+    (file_answer e (measured words.wanted words.options) status (s.given shelf') k.outcome err err' _ k.judged k.error)
 
 -- ---- `build`
 
@@ -232,18 +241,18 @@ built target given x (inr (inl h)) = by_list target given x h.3.0 h.3.2
 built target given x (inr (inr (inl h))) = by_expansion target given x h.0 h.1 h.2
 built target given x (inr (inr (inr h))) = by_parts target given x h.0 h.1 h.2
 
-build_of : {O E : Type 0} (o : sinks.Ghosts O) (e : sinks.Ghosts E) (target : List ℕ) (status : Status) (given : ℕ) (told told' : Option Files) (x : Outcome) (out out' : O) (err err' : E) (a b : Type 0)
-    → OutputIsKept o x status out out' → ErrorTextIsPut e x status err err' a b → FilesAreKept x status told told' → status ≡ x.status → Built target given x
+build_of : {O E : Type 0} (o : sinks.Ghosts O) (e : sinks.Ghosts E) (target : List ℕ) (status : Status) (given : ℕ) (told told' : Option Files) (x : Outcome) (out out' : O) (err err' : E) (failed : Failures)
+    → OutputIsKept o x status out out' → ErrorTextIsPut e x status failed err err' → FilesAreKept x status told told' → status ≡ x.status → Built target given x
     → BuildAnswers target status given told told' (λ text. Gains o text out out') (λ text. IsPut e text err err')
-build_of o e target status given told told' x out out' err err' a b output error files same (inl h) =
+build_of o e target status given told told' x out out' err err' failed output error files same (inl h) =
     let st = same ∙ ap (λ (y : Outcome). y.status) h.2 in
-    inr (inl (st, (h.0, h.1, subst (λ (y : Outcome). IsPut e y.err err err') h.2 (line_put e x status err err' a b is.Json st (λ p. p) error))))
-build_of o e target status given told told' x out out' err err' a b output error files same (inr (inl h)) =
+    inr (inl (st, (h.0, h.1, subst (λ (y : Outcome). IsPut e y.err err err') h.2 (line_put e x status err err' failed is.Json st (λ p. p) error))))
+build_of o e target status given told told' x out out' err err' failed output error files same (inr (inl h)) =
     let st = same ∙ ap (λ (y : Outcome). y.status) h.2 in
-    inr (inr (inl (st, (h.0, h.1, subst (λ (y : Outcome). IsPut e y.err err err') h.2 (line_put e x status err err' a b is.Limit st (λ p. p) error)))))
-build_of o e target status given told told' x out out' err err' a b output error files same (inr (inr (inl h))) = inl (inl (same ∙ h))
-build_of o e target status given told told' x out out' err err' a b output error files same (inr (inr (inr (inl h)))) = inl (inr (same ∙ h))
-build_of o e target status given told told' x out out' err err' a b output error files same (inr (inr (inr (inr h)))) =
+    inr (inr (inl (st, (h.0, h.1, subst (λ (y : Outcome). IsPut e y.err err err') h.2 (line_put e x status err err' failed is.Limit st (λ p. p) error)))))
+build_of o e target status given told told' x out out' err err' failed output error files same (inr (inr (inl h))) = inl (inl (same ∙ h))
+build_of o e target status given told told' x out out' err err' failed output error files same (inr (inr (inr (inl h)))) = inl (inr (same ∙ h))
+build_of o e target status given told told' x out out' err err' failed output error files same (inr (inr (inr (inr h)))) =
     let st = same ∙ ap (λ (y : Outcome). y.status) h.3 in
     inr (inr (inr (
       st,
@@ -256,15 +265,37 @@ build_of o e target status given told told' x out out' err err' a b output error
       ),
     )))
 
-build_judged : {O E : Type 0} (o : sinks.Ghosts O) (e : sinks.Ghosts E) (target : List ℕ) (status : Status) (given : ℕ) (told told' : Option Files) (x : Outcome) (out out' : O) (err err' : E) (a b : Type 0)
-    → OutputIsKept o x status out out' → ErrorTextIsPut e x status err err' a b → FilesAreKept x status told told' → ((status ≡ x.status) × CanBuild target given x) ⊎ (status ≡ is.Outside) ⊎ (status ≡ is.Memory)
+build_judged : {O E : Type 0} (o : sinks.Ghosts O) (e : sinks.Ghosts E) (target : List ℕ) (status : Status) (given : ℕ) (told told' : Option Files) (x : Outcome) (out out' : O) (err err' : E) (failed : Failures)
+    → OutputIsKept o x status out out' → ErrorTextIsPut e x status failed err err' → FilesAreKept x status told told' → ((status ≡ x.status) × CanBuild target given x) ⊎ (status ≡ is.Outside) ⊎ (status ≡ is.Memory)
     → BuildAnswers target status given told told' (λ text. Gains o text out out') (λ text. IsPut e text err err')
-build_judged o e target status given told told' x out out' err err' a b output error files (inl h) =
-    build_of o e target status given told told' x out out' err err' a b output error files h.0 (built target given x h.1)
-build_judged o e target status given told told' x out out' err err' a b output error files (inr h) = inl h
+build_judged o e target status given told told' x out out' err err' failed output error files (inl h) =
+    build_of o e target status given told told' x out out' err err' failed output error files h.0 (built target given x h.1)
+build_judged o e target status given told told' x out out' err err' failed output error files (inr h) = inl h
 
-pub build_answers : {S O E : Type 0} (s : shelves.Ghosts S) (o : sinks.Ghosts O) (e : sinks.Ghosts E) (list target : List ℕ) (status : Status) (shelf shelf' : S) (out out' : O) (err err' : E)
-    → KeepsPromises s o e (Some (Build list target)) status shelf shelf' out out' err err'
+pub build_answers : {S O E L : Type 0} (s : shelves.Ghosts S) (o : sinks.Ghosts O) (e : sinks.Ghosts E) (l : launches.Ghosts L) (list target : List ℕ) (status : Status) (shelf shelf' : S) (out out' : O)
+    (err err' : E) (machine machine' : L) → KeepsPromises s o e l (Some (Build list target)) status shelf shelf' out out' err err' machine machine'
     → BuildAnswers target status (s.given shelf') (s.told shelf) (s.told shelf') (λ text. Gains o text out out') (λ text. IsPut e text err err')
-build_answers s o e list target status shelf shelf' out out' err err' k =
-    build_judged o e target status (s.given shelf') (s.told shelf) (s.told shelf') k.outcome out out' err err' _ _ k.output k.error k.files k.judged
+build_answers s o e l list target status shelf shelf' out out' err err' machine machine' k =
+    build_judged o e target status (s.given shelf') (s.told shelf) (s.told shelf') k.outcome out out' err err' _ k.output k.error (late_kept k.outcome status (s.told shelf) (s.told shelf') k.files) k.judged
+
+-- ---- `make`
+
+make_of : {O : Type 0} (o : sinks.Ghosts O) (n : ℕ) (target : List ℕ) (status : Status) (told told' : Option Files) (x : Outcome) (out out' : O) → OutputIsKept o x status out out'
+    → FilesEndAs x status true told told' → ((status ≡ x.status) × (x ≡ made_outcome n target)) ⊎ (status ≡ is.Outside) ⊎ (status ≡ is.Memory)
+    → MakeAnswers n target status told told' (λ text. Gains o text out out')
+make_of o n target status told told' x out out' output files (inl h) =
+    let st = h.0 ∙ ap (λ (y : Outcome). y.status) h.1 in
+    inr (
+      st,
+      (
+        subst (λ (y : Outcome). FilesEndAs y is.Done true told told') h.1 (subst (λ (q : Status). FilesEndAs x q true told told') st files),
+        subst (λ (y : Outcome). Gains o y.out out out') h.1 (text_put o x status out out' st output),
+      ),
+    )
+make_of o n target status told told' x out out' output files (inr h) = inl h
+
+pub make_answers : {S O E L : Type 0} (s : shelves.Ghosts S) (o : sinks.Ghosts O) (e : sinks.Ghosts E) (l : launches.Ghosts L) (count : ℕ) (target : List ℕ) (status : Status) (shelf shelf' : S) (out out' : O)
+    (err err' : E) (machine machine' : L) → KeepsPromises s o e l (Some (Make count target)) status shelf shelf' out out' err err' machine machine'
+    → MakeAnswers count target status (s.told shelf) (s.told shelf') (λ text. Gains o text out out')
+make_answers s o e l count target status shelf shelf' out out' err err' machine machine' k =
+    make_of o count target status (s.told shelf) (s.told shelf') k.outcome out out' k.output k.files k.judged

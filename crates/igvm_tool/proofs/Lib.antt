@@ -2,5 +2,9 @@ pub mod JobAnswerLemmas
 pub mod BuildLemmas
 pub mod EndingLemmas
 pub mod ImageFileLemmas
-pub mod NumberLemmas
-pub mod WordsLemmas
+pub mod LoadAnswerLemmas
+pub mod LoadLemmas
+pub mod HeadlineLemmas
+pub mod LaunchLemmas
+pub mod LoadInWords
+pub mod MakeLemmas

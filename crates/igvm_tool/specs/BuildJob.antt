@@ -1,5 +1,5 @@
 -- `build LIST OUT`.
-use Rattle.std.specs.Prelude.{◌≡◌, ℕ, ◌<◌, ◌≤◌, ◌⊎◌, List, length, nat_lt, if◌then◌else◌, Option, Some, None, IfSome, slice_get, option_and_then, Result, Ok, Err}
+use Rattle.std.specs.Prelude.{◌≡◌, ℕ, ◌<◌, ◌≤◌, ◌⊎◌, List, length, nat_lt, if◌then◌else◌, false, Option, Some, None, IfSome, slice_get, option_and_then, Result, Ok, Err}
 use Rattle.std.specs.FinMap as map
 use Rattle.igvm_outside.specs.Files.{Files, content}
 use Rattle.component_list.specs.Lists.{ImageParts}
@@ -12,7 +12,7 @@ use Rattle.component_list.specs.ListForms.{source_of}
 use Rattle.component_list.specs.Expansion.{expand_of, file_of, BeforeExpands}
 use Rattle.image_builder.specs.Layout.{layout}
 use Rattle.igvm_tool.specs.declared.status.Status.TheVariants as is
-use Rattle.igvm_tool.specs.Texts.{shelf_text, memory_text, long_list_text, long_blob_text, large_data_text, large_image_text, not_json_text, field_text, entry_text, built_text}
+use Rattle.igvm_tool.specs.Texts.{shelf_text, memory_text, long_list_text, long_blob_text, large_data_text, large_image_text, not_json_text, part_text, field_text, entry_text, built_text}
 use Rattle.igvm_tool.specs.Outcome.{Outcome, done_writing, refused}
 use Rattle.igvm_tool.specs.Tasks.{Task}
 use Rattle.igvm_tool.specs.ImageFiles.{file_limit}
@@ -30,7 +30,7 @@ image_limit = 536870912
 -- of a list that is not read
 abbrev pub list_refused : ListRefusal → Outcome
 list_refused reading.NotJson = refused is.Json not_json_text
-list_refused (reading.Field part item) = refused is.Json (field_text part item)
+list_refused (reading.Field part item) = refused is.Json (field_text (part_text part) item)
 list_refused reading.Memory = refused is.Memory memory_text
 
 -- of a list that is not expanded
@@ -122,4 +122,6 @@ build_task list target =
       can_give = CanBuild target;
       reads = λ told name. (name ≡ list) ⊎ IsNamed told list name;
       writes = λ name. name ≡ target;
+      launches = false;
+      early = false;
     }

@@ -1,5 +1,5 @@
 -- Jobs on one image file: it is read, judged, and then something is made of it.
-use Rattle.std.specs.Prelude.{◌≡◌, ℕ, List, length, nat_lt, if◌then◌else◌, Option, Some, None}
+use Rattle.std.specs.Prelude.{◌≡◌, ℕ, List, length, nat_lt, if◌then◌else◌, false, Option, Some, None}
 use Rattle.std.specs.FinMap as map
 use Rattle.igvm_headers.specs.declared.fault.ReadFault.{ReadFault}
 use Rattle.igvm_image.specs.FileFault.{fault_of}
@@ -40,4 +40,6 @@ file_task file next =
       can_give = IsOfBytes next;
       reads = λ told name. name ≡ file;
       writes = λ name. ⊥;
+      launches = false;
+      early = false;
     }

@@ -8,7 +8,7 @@ use Rattle.platform_masks.specs.Platforms.{platforms_of}
 use Rattle.igvm_image.specs.Headers.{headers_of}
 use Rattle.igvm_measure.specs.Digests.{digest_of}
 use Rattle.igvm_tool.specs.declared.status.Status.TheVariants as is
-use Rattle.igvm_tool.specs.Words.{MeasureWords, PlatformChoice, First, Numbered}
+use Rattle.igvm_words.specs.Words.{MeasureWords, PlatformChoice, First, Numbered}
 use Rattle.igvm_tool.specs.Texts.{no_platform_text, no_digest_text, digest_text}
 use Rattle.igvm_tool.specs.Outcome.{Outcome, done, refused}
 use Rattle.igvm_tool.specs.Tasks.{Task}
@@ -33,10 +33,10 @@ wanted_platform bytes (Numbered number) = slice_get (platforms_of (headers_of by
 unfoldable pub platform_digest : List ℕ → Options → Platform → Option (List ℕ)
 platform_digest bytes options platform = digest_of bytes platform options
 
--- the digest is put where there is one
-abbrev pub digest_outcome : PlatformKind → Option (List ℕ) → Outcome
-digest_outcome kind None = refused is.Platform (no_digest_text kind)
-digest_outcome kind (Some digest) = done (digest_text digest)
+-- an image whose platform's kind has no digest is refused; `next` says what becomes of another
+abbrev pub digest_outcome : PlatformKind → (List ℕ → Outcome) → Option (List ℕ) → Outcome
+digest_outcome kind next None = refused is.Platform (no_digest_text kind)
+digest_outcome kind next (Some digest) = next digest
 
 -- an image without the platform is refused; `next` says what becomes of another
 abbrev pub platform_outcome : PlatformChoice → (Platform → Outcome) → Option Platform → Outcome
@@ -45,7 +45,8 @@ platform_outcome wanted next (Some platform) = next platform
 
 -- of a platform of an accepted image
 abbrev pub measured_for : List ℕ → Options → Platform → Outcome
-measured_for bytes options platform = digest_outcome platform.kind (platform_digest bytes options platform)
+measured_for bytes options platform =
+    digest_outcome platform.kind (λ digest. done (digest_text digest)) (platform_digest bytes options platform)
 
 -- of an accepted image
 unfoldable pub measured : PlatformChoice → Options → List ℕ → Outcome

@@ -7,8 +7,8 @@ use Rattle.igvm_tool.specs.declared.refusal.Ended.TheVariants as end
 use Rattle.igvm_tool.specs.declared.refusal.LimitOf.{LimitOf}
 use Rattle.igvm_tool.specs.declared.refusal.LimitOf.TheVariants as of
 use Rattle.igvm_tool.specs.declared.refusal.Refusal.{Refusal}
-use Rattle.igvm_tool.specs.declared.refusal.Refusal.TheVariants.{File, Shelf, Output, Memory, Platform, Json, Limit}
-use Rattle.igvm_tool.specs.Texts.{shelf_text, output_text, memory_text, long_file_text, long_list_text, long_blob_text, large_data_text, large_image_text}
+use Rattle.igvm_tool.specs.declared.refusal.Refusal.TheVariants.{File, Shelf, Output, Machine, Memory, Platform, Json, Limit}
+use Rattle.igvm_tool.specs.Texts.{shelf_text, output_text, machine_text, memory_text, long_file_text, long_list_text, long_host_text, long_blob_text, large_data_text, large_image_text}
 use Rattle.igvm_tool.specs.Outcome.{Outcome, refused}
 
 -- ---- a job that puts its text
@@ -20,7 +20,7 @@ ended_status end.NotFit = is.NotFit
 
 -- what a job gives that puts a text and writes no file
 abbrev pub ended_outcome : Ended → List ℕ → Outcome
-ended_outcome ended text = record { status = ended_status ended; out = text; err = []; written = None }
+ended_outcome ended text = record { status = ended_status ended; out = text; err = []; written = None; launched = None }
 
 -- ---- a job that is refused
 
@@ -29,6 +29,7 @@ abbrev pub status_of : Refusal → Status
 status_of (File text) = is.File
 status_of Shelf = is.Outside
 status_of Output = is.Outside
+status_of Machine = is.Outside
 status_of Memory = is.Memory
 status_of (Platform text) = is.Platform
 status_of (Json text) = is.Json
@@ -38,6 +39,7 @@ status_of (Limit of) = is.Limit
 abbrev pub limit_text : LimitOf → List ℕ
 limit_text of.File = long_file_text
 limit_text of.List = long_list_text
+limit_text of.Host = long_host_text
 limit_text of.Blob = long_blob_text
 limit_text of.Data = large_data_text
 limit_text of.Image = large_image_text
@@ -47,6 +49,7 @@ abbrev pub text_of : Refusal → List ℕ
 text_of (File text) = string_bytes text
 text_of Shelf = shelf_text
 text_of Output = output_text
+text_of Machine = machine_text
 text_of Memory = memory_text
 text_of (Platform text) = string_bytes text
 text_of (Json text) = string_bytes text
@@ -56,10 +59,11 @@ text_of (Limit limit) = limit_text limit
 abbrev pub refusal_outcome : Refusal → Outcome
 refusal_outcome refusal = refused (status_of refusal) (text_of refusal)
 
--- The outcome is what this refusal says, which neither a shelf nor an output gave; or memory ran out.
+-- The outcome is what this refusal says, which neither a shelf nor an output nor a machine gave; or memory ran out.
 abbrev pub Refuses : Outcome → Refusal → Type 0
 Refuses outcome Shelf = ⊥
 Refuses outcome Output = ⊥
+Refuses outcome Machine = ⊥
 Refuses outcome Memory = Unit {0}
 Refuses outcome refusal = outcome ≡ refusal_outcome refusal
 

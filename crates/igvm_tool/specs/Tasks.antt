@@ -1,5 +1,5 @@
 -- What the clauses of the top call ask of a job. They know no job by itself: a further one is a further task.
-use Rattle.std.specs.Prelude.{◌≡◌, ℕ, List, Option}
+use Rattle.std.specs.Prelude.{◌≡◌, ℕ, List, Option, Bool, false}
 use Rattle.igvm_outside.specs.Files.{Files}
 use Rattle.igvm_tool.specs.declared.status.Status.TheVariants as is
 use Rattle.igvm_tool.specs.Texts.{usage_text}
@@ -15,6 +15,10 @@ pub record Task : Type 1 where
   pub reads : Option Files → List ℕ → Type 0
   -- a name that it may write
   pub writes : List ℕ → Type 0
+  -- whether it sends commands to the machine
+  pub launches : Bool
+  -- whether it writes its file before it takes the last of its memory
+  pub early : Bool
 
 -- what words are answered that mean no job
 abbrev pub no_task : Task
@@ -24,4 +28,6 @@ no_task =
       can_give = λ given outcome. outcome ≡ refused is.Usage usage_text;
       reads = λ told name. ⊥;
       writes = λ name. ⊥;
+      launches = false;
+      early = false;
     }

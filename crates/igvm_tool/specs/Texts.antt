@@ -5,7 +5,12 @@ use Rattle.igvm_headers.specs.declared.fault.ReadWhat.{ReadWhat}
 use Rattle.igvm_headers.specs.declared.fault.ReadWhat.TheVariants.{TooShort, Magic, Version, Aarch64, Architecture, PageSize, TotalSize, Section, Checksum, HeaderCut, UnknownType, Length, Flags, DataType, PlatformType, Order, Mask, Align, AreaLimit, AreaRepeated, AreaUnknown, AreaSize, Wrap, DataOutside, TooManyPages, NoPlatform}
 use Rattle.igvm_headers.specs.declared.platform_kind.PlatformKind.{PlatformKind}
 use Rattle.igvm_headers.specs.PlatformKinds.{kind_text}
-use Rattle.igvm_tool.specs.Words.{PlatformChoice, First, Numbered}
+use Rattle.igvm_words.specs.Words.{PlatformChoice, choice_text}
+use Rattle.host_set.specs.declared.refusal.HostPart.{HostPart}
+use Rattle.host_set.specs.declared.refusal.HostPart.TheVariants as host
+use Rattle.directive_rules.specs.declared.misfit.Misfit.{Misfit}
+use Rattle.directive_rules.specs.declared.misfit.Why.{Why}
+use Rattle.directive_rules.specs.declared.misfit.Why.TheVariants as why
 use Rattle.component_list.specs.declared.refusal.ListPart.{ListPart}
 use Rattle.component_list.specs.declared.refusal.ListPart.TheVariants.{Top, Platforms, Policies, Directives}
 use Rattle.std.specs.Fmt.{decimal, format_spec, padded_integral, digits}
@@ -67,7 +72,9 @@ fault_text fault =
 abbrev pub usage_text : List ℕ
 usage_text =
     line (codes "usage: igvm build LIST OUT") ++ line (codes "       igvm print FILE")
-    ++ line (codes "       igvm measure FILE --platform P [--native-zero]") ++ line (codes "P is snp, tdx or a platform number")
+    ++ line (codes "       igvm measure FILE --platform P [--native-zero]")
+    ++ line (codes "       igvm load FILE HOST --platform P [--native-zero] [--image OUT]")
+    ++ line (codes "       igvm make N OUT") ++ line (codes "P is snp, tdx or a platform number")
 
 -- a file could not be read or written
 abbrev pub shelf_text : List ℕ
@@ -77,14 +84,13 @@ shelf_text = line (codes "igvm: outside fault: shelf")
 abbrev pub output_text : List ℕ
 output_text = line (codes "igvm: outside fault: output")
 
+-- the launch machine failed
+abbrev pub machine_text : List ℕ
+machine_text = line (codes "igvm: outside fault: machine")
+
 -- memory ran out
 abbrev pub memory_text : List ℕ
 memory_text = line (codes "igvm: want of memory")
-
--- the word for a platform that is asked for
-abbrev pub choice_text : PlatformChoice → List ℕ
-choice_text (First kind) = kind_text kind
-choice_text (Numbered number) = decimal number
 
 -- an image has no platform that is asked for
 abbrev pub no_platform_text : PlatformChoice → List ℕ
@@ -118,7 +124,11 @@ large_data_text = line (codes "igvm: limit: data")
 abbrev pub large_image_text : List ℕ
 large_image_text = line (codes "igvm: limit: image")
 
--- a list is no JSON
+-- a host description is longer than its limit
+abbrev pub long_host_text : List ℕ
+long_host_text = line (codes "igvm: limit: host")
+
+-- a text is no JSON
 abbrev pub not_json_text : List ℕ
 not_json_text = line (codes "igvm: json refused")
 
@@ -129,9 +139,17 @@ part_text Platforms = codes "platforms"
 part_text Policies = codes "policies"
 part_text Directives = codes "directives"
 
--- an entry that has not its form
-abbrev pub field_text : ListPart → ℕ → List ℕ
-field_text part item = codes "igvm: json refused: " ++ (part_text part ++ (codes " " ++ (decimal item ++ 10 ∷ [])))
+-- the word for a part of a host description
+abbrev pub host_part_text : HostPart → List ℕ
+host_part_text host.Top = codes "top"
+host_part_text host.Memory = codes "memory"
+host_part_text host.Values = codes "values"
+host_part_text host.Secrets = codes "secrets"
+host_part_text host.Cpuid = codes "cpuid"
+
+-- an entry of this part that has not its form
+abbrev pub field_text : List ℕ → ℕ → List ℕ
+field_text part item = codes "igvm: json refused: " ++ (part ++ (codes " " ++ (decimal item ++ 10 ∷ [])))
 
 -- an entry that breaks a rule of images
 abbrev pub entry_text : ListPart → ℕ → ReadWhat → List ℕ
@@ -142,3 +160,44 @@ entry_text part item what =
 -- how many bytes were written
 abbrev pub built_text : ℕ → List ℕ
 built_text bytes = codes "built " ++ (decimal bytes ++ (codes " bytes" ++ 10 ∷ []))
+
+-- ---- `load` and `make`
+
+-- how many pages and contexts a machine was given, and its digest
+abbrev pub load_text : ℕ → ℕ → List ℕ → List ℕ
+load_text pages contexts digest =
+    line (codes "loaded " ++ decimal pages ++ codes " pages, " ++ decimal contexts ++ codes " contexts")
+    ++ line (codes "digest " ++ encode_lower digest)
+
+-- the words for why a header does not fit
+abbrev pub why_words : Why → List ℕ
+why_words why.Outside = codes "outside"
+why_words why.Repeated = codes "repeated"
+why_words why.TypeNotHere = codes "type not here"
+why_words why.ContextNotHere = codes "context not here"
+why_words why.ContextRepeated = codes "context repeated"
+why_words why.PolicyRepeated = codes "policy repeated"
+why_words why.IdBlockNotHere = codes "id block not here"
+why_words why.IdBlockRepeated = codes "id block repeated"
+why_words why.AreaGone = codes "area gone"
+why_words why.ValueTooLong = codes "value too long"
+why_words why.AreasTooLarge = codes "areas too large"
+why_words why.TooManyPages = codes "too many pages"
+why_words (why.BadDigest wanted found) = codes "bad digest"
+
+-- the digests that one of them names
+abbrev pub why_digests : Why → List ℕ
+why_digests (why.BadDigest wanted found) = codes " wanted " ++ encode_lower wanted ++ codes " found " ++ encode_lower found
+why_digests _ = []
+
+-- an image does not fit: the first header that does not, and why
+abbrev pub misfit_text : Misfit → List ℕ
+misfit_text misfit =
+    line (codes "does not fit: header " ++ decimal misfit.index ++ codes ": " ++ why_words misfit.why ++ why_digests misfit.why)
+
+-- how many pages an image was made of, its bytes, what a machine was given of it, and its digests on SEV-SNP and TDX
+abbrev pub make_text : ℕ → ℕ → List ℕ → ℕ → ℕ → List ℕ → List ℕ
+make_text count bytes snp pages contexts tdx =
+    line (codes "made " ++ decimal count ++ codes " pages, " ++ decimal bytes ++ codes " bytes")
+    ++ line (codes "snp " ++ encode_lower snp ++ codes " loaded " ++ decimal pages ++ codes " pages, " ++ decimal contexts
+    ++ codes " contexts") ++ line (codes "tdx " ++ encode_lower tdx)

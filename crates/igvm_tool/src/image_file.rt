@@ -1,15 +1,18 @@
 //! The image of a file: read whole, and judged.
 ghost use Rattle.std.specs.Prelude.{◌≡◌, ℕ, List, ◌≤◌, length, IfOk, IfErr};
-ghost use Rattle.igvm_outside.specs.ShelfCalls.{IsRead};
+ghost use Rattle.igvm_outside.specs.Files.{IsUnwritten};
+ghost use Rattle.igvm_outside.specs.ShelfCalls.{IsRead, OnlyReads};
+ghost use Rattle.igvm_tool.specs.declared.refusal.LimitOf.TheVariants as limit_of;
 ghost use Rattle.igvm_tool.specs.Outcome.{Outcome};
-ghost use Rattle.igvm_tool.specs.ImageFiles.{bytes_outcome, file_limit, file_task};
+ghost use Rattle.igvm_tool.specs.ImageFiles.{bytes_outcome, file_limit};
 ghost use Rattle.igvm_tool.specs.Refusals.{Refuses};
-ghost use Rattle.igvm_tool.specs.Endings.{Stops};
+ghost use Rattle.igvm_tool.specs.Endings.{IsNotRead};
 
+use crate::file_reading::read_file;
 use crate::refusal::{LimitOf, Refusal};
 use crate::texts::fault_text;
 use igvm_image::{ImageView, open_image};
-use igvm_outside::{ReadRefusal, Shelf, read_all};
+use igvm_outside::Shelf;
 use std::alloc::Global;
 
 /// The most bytes that an image file may have.
@@ -19,15 +22,12 @@ const FILE_LIMIT: u64 = 536_870_912;
 pub fn read_image<S: Shelf>(alloc: Global, file: &str, shelf: &mut S) -> Result<Vec<u8>, Refusal>
     ensures read { IfOk result (λ bytes.
         IsRead S.Shelf file.now file_limit bytes.items shelf.old shelf.new) }
-    ensures refused { (next : List ℕ → Outcome) → IfErr result (λ refusal.
-        Stops S.Shelf (file_task file.now next) refusal shelf.old shelf.new) }
+    ensures refused { IfErr result (λ refusal.
+        IsNotRead S.Shelf file.now file_limit limit_of.File refusal shelf.old shelf.new) }
+    ensures only_reads { OnlyReads S.Shelf shelf.old shelf.new }
+    ensures unwritten { IsUnwritten (S.state shelf.new) }
 {
-    match read_all(alloc, shelf, file, FILE_LIMIT) {
-        Ok(bytes) => Ok(bytes),
-        Err(ReadRefusal::TooLong) => Err(Refusal::Limit(LimitOf::File)),
-        Err(ReadRefusal::Failed) => Err(Refusal::Shelf),
-        Err(ReadRefusal::Memory) => Err(Refusal::Memory),
-    }
+    read_file(alloc, shelf, file, FILE_LIMIT, LimitOf::File)
 }
 
 /// The image of a file's bytes, or the rule that they break.

@@ -1,55 +1,96 @@
-//! What holds of all words, and of all that the top call promises: laws, functions that do nothing.
-ghost use Rattle.std.specs.Prelude.{◌≡◌, ℕ, List, Option, ◌↔◌, Some, IfSome};
+//! What holds of all that the top call promises: laws, functions that do nothing.
+ghost use Rattle.std.specs.Prelude.{ℕ, List, Option, Some, IfSome};
+ghost use Rattle.platform_masks.specs.declared.platform.Platform.{Platform};
+ghost use Rattle.host_set.specs.declared.range.PlanRange.{PlanRange};
+ghost use Rattle.host_set.specs.Hosts.{HostValues};
+ghost use Rattle.igvm_outside.specs.Files.{Files};
+ghost use Rattle.igvm_words.specs.Words.{Job, Build, Print, Measure, MeasureWords, Load, LoadWords, Make};
 ghost use Rattle.igvm_tool.specs.declared.status.Status as status;
-ghost use Rattle.igvm_tool.specs.Words.{Job, Build, Print, Measure, MeasureWords, job_of};
-ghost use Rattle.igvm_tool.specs.WordsOfJob.{Means};
 ghost use Rattle.igvm_tool.specs.Clauses.{KeepsPromises, Gains, IsPut};
-ghost use Rattle.igvm_tool.specs.JobAnswers.{FollowsFiles, PrintAnswers, MeasureAnswers, BuildAnswers};
+ghost use Rattle.igvm_tool.specs.Headline.{IsAsked, Agree};
+ghost use Rattle.igvm_tool.specs.JobAnswers.{FollowsFiles, PrintAnswers, MeasureAnswers, BuildAnswers, LoadAnswers, LoadIsTold, MakeAnswers};
 
+use crate::status::Status;
 use igvm_outside::{Shelf, Sink};
-
-/// Words mean a job exactly where they are the words of that job. So no words mean two jobs, and each
-/// job that can be asked for has words of its own.
-pub fn words_of_a_job()
-    ensures { (words : List (List ℕ)) (job : Job) → (job_of words ≡ Some job) ↔ Means words job }
-{}
+use launch_platform::Launch;
 
 /// Where the files are told, all that is promised holds of what the job gives over them.
-pub fn told_files_decide<S: Shelf, O: Sink, E: Sink>()
+pub fn told_files_decide<S: Shelf, O: Sink, E: Sink, L: Launch>()
     ensures { (job : Option Job) (status : status.Status)
-        (shelf shelf' : S) (out out' : O) (err err' : E)
-        → KeepsPromises S.Shelf O.Sink E.Sink job status
-        shelf shelf' out out' err err'
+        (shelf shelf' : S) (out out' : O) (err err' : E) (machine machine' : L)
+        → KeepsPromises S.Shelf O.Sink E.Sink L.Launch job status
+        shelf shelf' out out' err err' machine machine'
         → IfSome (S.told shelf)
-        (FollowsFiles S.Shelf O.Sink E.Sink job status shelf shelf' out out' err err') }
+        (FollowsFiles S.Shelf O.Sink E.Sink L.Launch job status shelf shelf' out out' err err'
+        machine machine') }
 {}
 
 /// Whatever is told, `print` answers for some bytes of FILE, as many as it gave.
-pub fn print_answers<S: Shelf, O: Sink, E: Sink>()
+pub fn print_answers<S: Shelf, O: Sink, E: Sink, L: Launch>()
     ensures { (file : List ℕ) (status : status.Status)
-        (shelf shelf' : S) (out out' : O) (err err' : E)
-        → KeepsPromises S.Shelf O.Sink E.Sink (Some (Print file)) status
-        shelf shelf' out out' err err'
+        (shelf shelf' : S) (out out' : O) (err err' : E) (machine machine' : L)
+        → KeepsPromises S.Shelf O.Sink E.Sink L.Launch (Some (Print file)) status
+        shelf shelf' out out' err err' machine machine'
         → PrintAnswers status (S.given shelf')
         (λ text. Gains O.Sink text out out') (λ text. IsPut E.Sink text err err') }
 {}
 
 /// Whatever is told, `measure` answers for some bytes of FILE, as many as it gave.
-pub fn measure_answers<S: Shelf, O: Sink, E: Sink>()
+pub fn measure_answers<S: Shelf, O: Sink, E: Sink, L: Launch>()
     ensures { (words : MeasureWords) (status : status.Status)
-        (shelf shelf' : S) (out out' : O) (err err' : E)
-        → KeepsPromises S.Shelf O.Sink E.Sink (Some (Measure words)) status
-        shelf shelf' out out' err err'
+        (shelf shelf' : S) (out out' : O) (err err' : E) (machine machine' : L)
+        → KeepsPromises S.Shelf O.Sink E.Sink L.Launch (Some (Measure words)) status
+        shelf shelf' out out' err err' machine machine'
         → MeasureAnswers words status (S.given shelf')
         (λ text. Gains O.Sink text out out') (λ text. IsPut E.Sink text err err') }
 {}
 
 /// Whatever is told, `build` writes the image of some components, or says in one of its texts why not.
-pub fn build_answers<S: Shelf, O: Sink, E: Sink>()
+pub fn build_answers<S: Shelf, O: Sink, E: Sink, L: Launch>()
     ensures { (list target : List ℕ) (status : status.Status)
-        (shelf shelf' : S) (out out' : O) (err err' : E)
-        → KeepsPromises S.Shelf O.Sink E.Sink (Some (Build list target)) status
-        shelf shelf' out out' err err'
+        (shelf shelf' : S) (out out' : O) (err err' : E) (machine machine' : L)
+        → KeepsPromises S.Shelf O.Sink E.Sink L.Launch (Some (Build list target)) status
+        shelf shelf' out out' err err' machine machine'
         → BuildAnswers target status (S.given shelf') (S.told shelf) (S.told shelf')
         (λ text. Gains O.Sink text out out') (λ text. IsPut E.Sink text err err') }
+{}
+
+/// Whatever is told, `load` refuses FILE, P or HOST; or it judges some image that has a digest, on the host that some
+/// text describes, as long as HOST gave: it names the first misfit, or is done where there is none, and puts that digest.
+pub fn load_answers<S: Shelf, O: Sink, E: Sink, L: Launch>()
+    ensures { (words : LoadWords) (status : status.Status)
+        (shelf shelf' : S) (out out' : O) (err err' : E) (machine machine' : L)
+        → KeepsPromises S.Shelf O.Sink E.Sink L.Launch (Some (Load words)) status
+        shelf shelf' out out' err err' machine machine'
+        → LoadAnswers words status (S.given shelf')
+        (λ text. Gains O.Sink text out out') (λ text. IsPut E.Sink text err err') }
+{}
+
+/// Whatever is told, a `load` that is done has told what its machine then holds.
+pub fn load_is_told<S: Shelf, O: Sink, E: Sink, L: Launch>()
+    ensures { (words : LoadWords) (shelf shelf' : S) (out out' : O) (err err' : E) (machine machine' : L)
+        → KeepsPromises S.Shelf O.Sink E.Sink L.Launch (Some (Load words)) Status.Done
+        shelf shelf' out out' err err' machine machine'
+        → LoadIsTold O.Sink L.Launch out out' machine' }
+{}
+
+/// Whatever is told, `make` writes the image of so many pages and puts what came out, or the outside or
+/// memory failed.
+pub fn make_answers<S: Shelf, O: Sink, E: Sink, L: Launch>()
+    ensures { (count : ℕ) (target : List ℕ) (status : status.Status)
+        (shelf shelf' : S) (out out' : O) (err err' : E) (machine machine' : L)
+        → KeepsPromises S.Shelf O.Sink E.Sink L.Launch (Some (Make count target)) status
+        shelf shelf' out out' err err' machine machine'
+        → MakeAnswers count target status (S.told shelf) (S.told shelf')
+        (λ text. Gains O.Sink text out out') }
+{}
+
+/// The headline. For each accepted file, each platform of it that has a digest, every host description that is
+/// read, and the same options: `load` is done exactly where the image has no misfit, and then puts the digest
+/// that `measure` puts; else it names the first misfit.
+pub fn load_agrees_with_measure()
+    ensures { (files : Files) (words : LoadWords) (bytes : List ℕ) (platform : Platform)
+        (plan : List PlanRange) (host : HostValues)
+        → IsAsked files words bytes platform plan host
+        → Agree files words bytes platform plan host }
 {}

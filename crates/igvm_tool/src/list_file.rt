@@ -8,11 +8,12 @@ ghost use Rattle.igvm_tool.specs.ImageFiles.{file_limit};
 ghost use Rattle.igvm_tool.specs.ListRefusals.{IsOfList, IsOfExpansion};
 ghost use Rattle.igvm_tool.specs.Endings.{Stops};
 
-use crate::refusal::{LimitOf, Refusal};
-use crate::texts::{entry_text, field_text, not_json_text};
+use crate::file_reading::read_file;
+use crate::refusal::{LimitOf, Refusal, line_refusal};
+use crate::texts::{entry_text, field_text, not_json_text, part_text};
 use component_list::{ComponentList, ExpandRefusal, ListRefusal, expand, read_list};
-use igvm_outside::{ReadRefusal, Shelf, read_all, reads_compose};
-use std::alloc::{AllocError, Global};
+use igvm_outside::{Shelf, reads_compose};
+use std::alloc::Global;
 
 /// The most bytes that the text of a component list may have.
 const LIST_LIMIT: u64 = 16_777_216;
@@ -46,12 +47,7 @@ fn read_text<S: Shelf>(alloc: Global, list: &str, shelf: &mut S) -> Result<Vec<u
     ensures only_reads { OnlyReads S.Shelf shelf.old shelf.new }
     ensures unwritten { IsUnwritten (S.state shelf.new) }
 {
-    match read_all(alloc, shelf, list, LIST_LIMIT) {
-        Ok(bytes) => Ok(bytes),
-        Err(ReadRefusal::TooLong) => Err(Refusal::Limit(LimitOf::List)),
-        Err(ReadRefusal::Failed) => Err(Refusal::Shelf),
-        Err(ReadRefusal::Memory) => Err(Refusal::Memory),
-    }
+    read_file(alloc, shelf, list, LIST_LIMIT, LimitOf::List)
 }
 
 /// The components of a list's text, which was read before, or why there are none.
@@ -88,7 +84,7 @@ fn list_refusal(alloc: Global, refusal: ListRefusal) -> Refusal
 {
     match refusal {
         ListRefusal::NotJson => line_refusal(not_json_text(alloc)),
-        ListRefusal::Field { part, item } => line_refusal(field_text(alloc, part, item)),
+        ListRefusal::Field { part, item } => line_refusal(field_text(alloc, part_text(part), item)),
         ListRefusal::Memory => Refusal::Memory,
     }
 }
@@ -105,16 +101,5 @@ fn expand_refusal(alloc: Global, refusal: ExpandRefusal) -> Refusal
             alloc, part, item, what,
         )),
         ExpandRefusal::Memory => Refusal::Memory,
-    }
-}
-
-/// A refusal with this line, where there was memory for it.
-fn line_refusal(line: Result<String, AllocError>) -> Refusal
-    ensures line { IfOk line (λ line. result ≡ Refusal.Json line) }
-    ensures memory { IfErr line (λ e. result ≡ Refusal.Memory) }
-{
-    match line {
-        Ok(line) => Refusal::Json(line),
-        Err(_) => Refusal::Memory,
     }
 }

@@ -1,13 +1,17 @@
-//! Builds, prints and measures IGVM images: docs/PROGRAM.md.
+//! Builds, prints, measures, loads and makes IGVM images: docs/PROGRAM.md.
 #![tactic(auto)]
 
 mod building;
+mod file_reading;
+mod host_file;
 mod image_file;
-mod job;
+mod launch_texts;
+mod launching;
 mod laws;
 mod list_file;
+mod loading;
+mod making;
 mod measuring;
-mod platform_choice;
 mod printing;
 mod refusal;
 mod running;
@@ -15,16 +19,16 @@ mod status;
 #[cfg(test)]
 mod tests;
 mod texts;
-mod words;
 
 use igvm_headers::Memory;
 use igvm_outside::{StdShelf, StdSink};
+use igvm_words::Words;
+use launch_platform::MemLaunch;
 use refusal::{Refusal, finish};
 use running::run;
 use status::Status;
 use std::process::ExitCode;
 use std::{env, io};
-use words::Words;
 
 /// The words behind the program's name. Where one is not text there are none, which is usage.
 fn given_words(rt: HostRuntime) -> Result<Words, Memory> {
@@ -48,7 +52,15 @@ fn status_of(rt: HostRuntime) -> Status {
     };
     let mut shelf = StdShelf::new(rt);
     let mut out = StdSink::output(rt);
-    run(rt.alloc(), &words, &mut shelf, &mut out, &mut err)
+    let mut machine = MemLaunch::new(rt.alloc());
+    run(
+        rt.alloc(),
+        &words,
+        &mut shelf,
+        &mut out,
+        &mut err,
+        &mut machine,
+    )
 }
 
 fn main(rt: HostRuntime) -> ExitCode {

@@ -1,6 +1,6 @@
 //! `measure FILE --platform P [--native-zero]`: the launch digest of a file's image.
 ghost use Rattle.std.specs.Prelude.{◌≡◌, IfOk, IfErr};
-ghost use Rattle.igvm_tool.specs.JobView.{choice_view, measure_view};
+ghost use Rattle.igvm_words.specs.JobView.{choice_view, measure_view};
 ghost use Rattle.igvm_tool.specs.Texts.{digest_text};
 ghost use Rattle.igvm_tool.specs.Outcome.{done};
 ghost use Rattle.igvm_tool.specs.MeasureJob.{measured, measured_for, measure_task, wanted_platform, first_platform};
@@ -8,14 +8,13 @@ ghost use Rattle.igvm_tool.specs.Refusals.{Refuses};
 ghost use Rattle.igvm_tool.specs.Endings.{Ends};
 
 use crate::image_file::{judge, read_image};
-use crate::job::MeasureWords;
-use crate::platform_choice::PlatformChoice;
 use crate::refusal::{Ended, Refusal, put_end};
 use crate::texts::{digest_text, no_digest_text, no_platform_text};
 use igvm_headers::{Digest, Options, PlatformKind};
 use igvm_image::ImageView;
 use igvm_measure::measure_image;
 use igvm_outside::{Shelf, Sink};
+use igvm_words::{MeasureWords, PlatformChoice};
 use platform_masks::Platform;
 use std::alloc::Global;
 
@@ -55,7 +54,7 @@ fn image_digest(
 
 /// The platform that is asked for, where the image has it.
 #[tactic(auto, unfolding(crate::specs::MeasureJob::wanted_platform))]
-fn wanted_platform(view: &ImageView<'_>, wanted: PlatformChoice) -> Option<Platform>
+pub fn wanted_platform(view: &ImageView<'_>, wanted: PlatformChoice) -> Option<Platform>
     ensures { result ≡ wanted_platform view.now (choice_view wanted) }
 {
     match wanted {

@@ -1,5 +1,5 @@
 //! How a job ends: its text is put, or it is refused with a line.
-ghost use Rattle.std.specs.Prelude.{◌≡◌};
+ghost use Rattle.std.specs.Prelude.{◌≡◌, IfOk, IfErr};
 ghost use Rattle.igvm_tool.specs.declared.refusal.Refusal.TheVariants as refusal;
 ghost use Rattle.igvm_tool.specs.Clauses.{IsPut};
 ghost use Rattle.igvm_tool.specs.Refusals.{status_of, limit_text, text_of, ended_status, end_status};
@@ -37,10 +37,12 @@ pub enum Refusal {
     Shelf,
     /// The output failed.
     Output,
+    /// The launch machine failed.
+    Machine,
     Memory,
     /// The image has no such platform, or its kind has no digest; this is its line.
     Platform(String),
-    /// The list is no JSON, or an entry of it is refused; this is its line.
+    /// A text is no JSON, or an entry of it is refused; this is its line.
     Json(String),
     /// Something is longer or larger than its limit.
     Limit(LimitOf),
@@ -53,6 +55,8 @@ pub enum LimitOf {
     File,
     /// The text of a component list.
     List,
+    /// The text of a host description.
+    Host,
     /// A file that a list names.
     Blob,
     /// The contents of a list, together.
@@ -68,6 +72,7 @@ impl LimitOf {
         match self {
             LimitOf::File => "igvm: limit: file\n",
             LimitOf::List => "igvm: limit: list\n",
+            LimitOf::Host => "igvm: limit: host\n",
             LimitOf::Blob => "igvm: limit: blob\n",
             LimitOf::Data => "igvm: limit: data\n",
             LimitOf::Image => "igvm: limit: image\n",
@@ -91,6 +96,7 @@ impl Refusal {
             Refusal::File(_) => Status::File,
             Refusal::Shelf => Status::Outside,
             Refusal::Output => Status::Outside,
+            Refusal::Machine => Status::Outside,
             Refusal::Memory => Status::Memory,
             Refusal::Platform(_) => Status::Platform,
             Refusal::Json(_) => Status::Json,
@@ -105,6 +111,7 @@ impl Refusal {
             Refusal::File(line) => line.as_str(),
             Refusal::Shelf => "igvm: outside fault: shelf\n",
             Refusal::Output => "igvm: outside fault: output\n",
+            Refusal::Machine => "igvm: outside fault: machine\n",
             Refusal::Memory => "igvm: want of memory\n",
             Refusal::Platform(line) => line.as_str(),
             Refusal::Json(line) => line.as_str(),
@@ -142,5 +149,16 @@ pub fn put_end<O: Sink>(out: &mut O, ended: Ended, text: &[u8]) -> Result<Ended,
     match put_all(out, text) {
         Ok(()) => Ok(ended),
         Err(_) => Err(Refusal::Output),
+    }
+}
+
+/// A refusal with this line, where there was memory for it.
+pub fn line_refusal(line: Result<String, AllocError>) -> Refusal
+    ensures line { IfOk line (λ line. result ≡ Refusal.Json line) }
+    ensures memory { IfErr line (λ e. result ≡ Refusal.Memory) }
+{
+    match line {
+        Ok(line) => Refusal::Json(line),
+        Err(_) => Refusal::Memory,
     }
 }

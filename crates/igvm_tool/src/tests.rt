@@ -1,13 +1,17 @@
-//! Worked examples through `run`, over shelves and outputs in memory. An image is written in
+//! Worked examples through `run`, over shelves, outputs and machines in memory. An image is written in
 //! hexadecimal digits; its checksum is from Python's `zlib`, its digests are from `hashlib`.
 mod built_images;
 mod faults;
 mod limits;
 mod listings;
-mod loading;
+mod load_faults;
+mod load_images;
+mod loads;
 mod long_listings;
+mod made_images;
 mod native_zero;
 mod page_bytes;
+mod pages_files;
 mod platforms;
 mod refused_files;
 mod refused_lists;
@@ -17,9 +21,10 @@ mod usage;
 
 use crate::running::run;
 use crate::status::Status;
-use crate::words::Words;
 use igvm_headers::Memory;
 use igvm_outside::{MemShelf, MemSink, Shelf};
+use igvm_words::Words;
+use launch_platform::MemLaunch;
 use std::alloc::Global;
 use std::process::Abort;
 use std::test::Fail;
@@ -51,7 +56,8 @@ fn must_run<S: Shelf>(
 ) {
     let mut out = MemSink::new(alloc);
     let mut err = MemSink::new(alloc);
-    let status = run(alloc, words, shelf, &mut out, &mut err);
+    let mut machine = MemLaunch::new(alloc);
+    let status = run(alloc, words, shelf, &mut out, &mut err, &mut machine);
     assert_eq!(rt; status, want.0, "{name}");
     assert_eq!(rt; out.bytes(), want.1.as_bytes(), "{name}");
     assert_eq!(rt; err.bytes(), want.2.as_bytes(), "{name}");
@@ -80,7 +86,8 @@ fn run_with(
     mut out: MemSink,
     mut err: MemSink,
 ) -> Ran {
-    let status = run(alloc, words, shelf, &mut out, &mut err);
+    let mut machine = MemLaunch::new(alloc);
+    let status = run(alloc, words, shelf, &mut out, &mut err, &mut machine);
     Ran { status, out, err }
 }
 

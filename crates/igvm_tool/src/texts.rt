@@ -1,11 +1,12 @@
 //! The texts of docs/PROGRAM.md.
 ghost use Rattle.std.specs.Prelude.{◌≡◌, IfOk, string_bytes, length};
-ghost use Rattle.igvm_tool.specs.Texts.{rule_words, what_text, fault_text, no_platform_text, no_digest_text, digest_text, part_text, not_json_text, field_text, entry_text, built_text};
-ghost use Rattle.igvm_tool.specs.JobView.{choice_view};
+ghost use Rattle.igvm_tool.specs.Texts.{rule_words, what_text, fault_text, no_platform_text, no_digest_text, digest_text, part_text, host_part_text, not_json_text, field_text, entry_text, built_text};
+ghost use Rattle.igvm_words.specs.JobView.{choice_view};
 
-use crate::platform_choice::PlatformChoice;
 use component_list::ListPart;
+use host_set::HostPart;
 use igvm_headers::{Digest, PlatformKind, ReadFault, ReadWhat, kind_name};
+use igvm_words::PlatformChoice;
 use std::alloc::{AllocError, Global};
 
 /// How the program is used.
@@ -13,6 +14,8 @@ pub const USAGE: &str = "\
 usage: igvm build LIST OUT
        igvm print FILE
        igvm measure FILE --platform P [--native-zero]
+       igvm load FILE HOST --platform P [--native-zero] [--image OUT]
+       igvm make N OUT
 P is snp, tdx or a platform number
 ";
 
@@ -93,7 +96,7 @@ pub fn no_digest_text(alloc: Global, kind: PlatformKind) -> Result<String, Alloc
 }
 
 /// The word for a part of a component list.
-fn part_text(part: ListPart) -> &'static str
+pub fn part_text(part: ListPart) -> &'static str
     ensures { result.now ≡ part_text part }
 {
     match part {
@@ -104,18 +107,30 @@ fn part_text(part: ListPart) -> &'static str
     }
 }
 
-/// The line that says that a list is no JSON.
+/// The word for a part of a host description.
+pub fn host_part_text(part: HostPart) -> &'static str
+    ensures { result.now ≡ host_part_text part }
+{
+    match part {
+        HostPart::Top => "top",
+        HostPart::Memory => "memory",
+        HostPart::Values => "values",
+        HostPart::Secrets => "secrets",
+        HostPart::Cpuid => "cpuid",
+    }
+}
+
+/// The line that says that a text is no JSON.
 pub fn not_json_text(alloc: Global) -> Result<String, AllocError>
     ensures { IfOk result (λ text. string_bytes text ≡ not_json_text) }
 {
     String::from_str(alloc, "igvm: json refused\n")
 }
 
-/// The line that says which entry of a list has not its form.
-pub fn field_text(alloc: Global, part: ListPart, item: u32) -> Result<String, AllocError>
-    ensures { IfOk result (λ text. string_bytes text ≡ field_text part item) }
+/// The line that says which entry of which part has not its form.
+pub fn field_text(alloc: Global, part: &str, item: u32) -> Result<String, AllocError>
+    ensures { IfOk result (λ text. string_bytes text ≡ field_text part.now item) }
 {
-    let part = part_text(part);
     format!(in alloc; "igvm: json refused: {part} {item}\n")
 }
 

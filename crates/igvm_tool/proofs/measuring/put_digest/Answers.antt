@@ -1,14 +1,17 @@
 use Rattle.std.proofs.Common.{◌∙◌, sym, ap}
-use Rattle.igvm_tool.specs.JobView.{choice_view}
+use Rattle.igvm_words.specs.JobView.{choice_view}
 use Rattle.igvm_tool.specs.declared.refusal.Ended.TheVariants as end
 use Rattle.igvm_tool.specs.Outcome.{done}
 use Rattle.igvm_tool.specs.MeasureJob.{measured}
 use Rattle.igvm_tool.proofs.EndingLemmas.{stopped}
-use Rattle.igvm_tool.proofs.ImageFileLemmas.{judged_stops, refused_image, put_ends, read_as}
+use Rattle.igvm_tool.proofs.ImageFileLemmas.{not_read_stops, judged_stops, refused_image, put_ends, read_as}
 use Rattle.igvm_tool.proofs.measuring.put_digest.Goals as goal
 
 pub returns-in_err-bytes : goal.returns-in_err-bytes
-returns-in_err-bytes g c = stopped _ c.from_residual.ensures.1 (c.in_err-bytes.ensures.refused (measured (choice_view c.args.words.wanted) c.args.words.options))
+returns-in_err-bytes g c =
+    let next = measured (choice_view c.args.words.wanted) c.args.words.options in
+    stopped _ c.from_residual.ensures.1
+    (not_read_stops next c.args.words.file.now _ c.in_err-bytes.ensures.refused c.read_image.ensures.only_reads c.read_image.ensures.unwritten)
 
 pub returns-in_err-view : goal.returns-in_err-view
 returns-in_err-view g c =

@@ -2,11 +2,13 @@ use Rattle.std.proofs.Common.{◌∙◌, sym, ap}
 use Rattle.igvm_tool.specs.declared.refusal.Ended.TheVariants as end
 use Rattle.igvm_tool.specs.PrintJob.{listed}
 use Rattle.igvm_tool.proofs.EndingLemmas.{stopped}
-use Rattle.igvm_tool.proofs.ImageFileLemmas.{judged_stops, put_ends, read_as}
+use Rattle.igvm_tool.proofs.ImageFileLemmas.{not_read_stops, judged_stops, put_ends, read_as}
 use Rattle.igvm_tool.proofs.printing.put_listing.Goals as goal
 
 pub returns-in_err-bytes : goal.returns-in_err-bytes
-returns-in_err-bytes g c = stopped _ c.from_residual.ensures.1 (c.in_err-bytes.ensures.refused listed)
+returns-in_err-bytes g c =
+    stopped _ c.from_residual.ensures.1
+    (not_read_stops listed c.args.file.now _ c.in_err-bytes.ensures.refused c.read_image.ensures.only_reads c.read_image.ensures.unwritten)
 
 pub returns-in_err-view : goal.returns-in_err-view
 returns-in_err-view g c =

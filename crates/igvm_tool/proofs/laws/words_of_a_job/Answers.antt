@@ -1,5 +1,0 @@
-use Rattle.igvm_tool.proofs.WordsLemmas.{words_mean}
-use Rattle.igvm_tool.proofs.laws.words_of_a_job.Goals as goal
-
-pub returns : goal.returns
-returns c = words_mean
