@@ -26,14 +26,19 @@ def platform(image, wanted):
     return found[int(wanted)] if int(wanted) < len(found) else None
 
 
+def no_digest(one, wanted):
+    """What the error output has where P means no platform, or one whose kind has no digest, or None."""
+    if one is None:
+        return f"igvm: no platform {wanted}\n"
+    return None if PLATFORM_KINDS[one.kind] in ("snp", "tdx") else f"igvm: no digest for {PLATFORM_KINDS[one.kind]}\n"
+
+
 def measured(image, wanted, native_zero):
     one = platform(image, wanted)
-    if one is None:
-        return 6, "", f"igvm: no platform {wanted}\n"
-    digest = digests.digest(image, one, native_zero)
-    if digest is None:
-        return 6, "", f"igvm: no digest for {PLATFORM_KINDS[one.kind]}\n"
-    return 0, digest.hex() + "\n", ""
+    error = no_digest(one, wanted)
+    if error is not None:
+        return 6, "", error
+    return 0, digests.digest(image, one, native_zero).hex() + "\n", ""
 
 
 def answer(command, image, fault):

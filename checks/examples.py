@@ -4,9 +4,11 @@
 The images of examples/ and their listings are those that make_images.py writes. The plain reader gives the same
 listings, and the digests that examples/README.md has for each image. The plain builder makes the image NAME.igvm of
 each list NAME.json, and boot.json in the other version of the format makes an image that only lies 8 bytes further.
-Then the program ($IGVM, or crates/igvm_tool/out/igvm_tool) is run by all commands over each image, and compared with
-the plain reader; so it is over further images that are named. It builds the lists, too, and the commands that
-examples/README.md shows print what stands there. Ends with 77 where the program isn't built.
+The plain loader gives what the README shows of loading boot.igvm on the host of boot_host.json, whose values then
+stand in the pages of its areas. Then the program ($IGVM, or crates/igvm_tool/out/igvm_tool) is run by all commands over
+each image, and compared with the plain reader; so it is over further images that are named. It builds the lists, and
+loads boot.igvm with a pages file, too, and the commands that examples/README.md shows print what stands there. Ends
+with 77 where the program isn't built.
 """
 import json
 import os
@@ -18,11 +20,16 @@ import reader
 from answers import COMMANDS, OPTION, answer, words
 from components import built
 from listing import listing
+from loader import load
 from program import ROOT, Program, is_built
 from records import headers
 
 EXAMPLES = os.path.join(ROOT, "examples")
 LISTS = ("boot", "sparse")
+LOADED = ("load", "examples/boot.igvm", "examples/boot_host.json", "--platform")
+# The values of boot_host.json, and what they make of the two areas of boot.igvm
+MEMORY_MAP, PROCESSORS, COMMAND_LINE = bytes(9) + b"\x10" + bytes(14), b"\4\0\0\0", b"console=ttyS0"
+AREAS = MEMORY_MAP.ljust(2048, b"\0") + PROCESSORS.ljust(2048, b"\0"), COMMAND_LINE.ljust(4096, b"\0")
 
 
 def read(*path):
@@ -114,6 +121,38 @@ def shown():
             command = None
 
 
+def plain_load(wanted):
+    """What the plain loader answers for boot.igvm on its host."""
+    return load(read(EXAMPLES, "boot.igvm"), read(EXAMPLES, "boot_host.json"), wanted, native_zero=False)
+
+
+def load_faults():
+    """Where README.md shows another load of boot.igvm, or the host's values don't stand where its areas are."""
+    lines = {tuple(command): lines for command, lines in shown()}
+    for wanted, at in (("snp", 11), ("tdx", 9)):
+        loaded = plain_load(wanted)
+        if loaded.output.splitlines() != lines.get((*LOADED, wanted)):
+            yield f"README.md: load with --platform {wanted}: the plain loader answers {loaded[:3]}"
+        for gpa, page in zip((0x1A000, 0x1B000), AREAS):
+            record = gpa.to_bytes(8, "little") + b"\1" + bytes(7) + page
+            if (loaded.pages or b"")[len(record) * at:len(record) * (at + 1)] != record:
+                yield f"boot_host.json: --platform {wanted}: another page at {gpa:#x}"
+            at += 1
+
+
+def pages_file_faults():
+    """Where the program loads boot.igvm with another pages file than the plain loader."""
+    with tempfile.TemporaryDirectory() as folder:
+        path, program = os.path.join(folder, "pages"), Program(folder)
+        os.chdir(ROOT)
+        for wanted in ("snp", "tdx"):
+            want, got = plain_load(wanted), program.run([*LOADED, wanted, "--image", path])
+            if got != want[:3]:
+                yield f"{' '.join(LOADED)} {wanted} --image: the program answers {got}, expected {want[:3]}"
+            elif read(path) != want.pages:
+                yield f"{' '.join(LOADED)} {wanted} --image: the program writes another pages file"
+
+
 def shown_faults():
     """Where the commands of README.md print something else than it shows, or build other images in /tmp."""
     with tempfile.TemporaryDirectory() as folder:
@@ -177,12 +216,13 @@ def main():
         faults += page_faults(name, written[name], text, table)
     for name in LISTS:
         faults += list_faults(name)
-    faults += version_faults(built(in_version_2(), from_root)[3])
-    faults += [*program_faults(paths), *shown_faults(), *other_version_faults()] if is_built() else []
+    faults += [*version_faults(built(in_version_2(), from_root)[3]), *load_faults()]
+    if is_built():
+        faults += [*program_faults(paths), *shown_faults(), *other_version_faults(), *pages_file_faults()]
     for fault in faults:
         print(f"examples: {fault}")
     if not is_built() and not faults:
-        print(f"examples: skipped, the program isn't built ({len(names)} images, listings and digests agree)")
+        print(f"examples: skipped, the program isn't built ({len(names)} images, listings, digests and loads agree)")
         return 77
     print(f"examples: {len(paths)} images, {len(faults)} faults")
     return 1 if faults else 0

@@ -3,6 +3,7 @@ import struct
 import zlib
 
 import records
+from lists import PARAMETER_KINDS
 from records import FIXED_SIZES, PAGE
 
 
@@ -30,20 +31,24 @@ def insert(gpa, index, mask=1):
     return header(0x303, struct.pack("<QII", gpa, mask, index))
 
 
-def context(gpa, offset=0, mask=1, length=24):
-    return header(0x304, struct.pack("<QIIHHI", gpa, mask, offset, 0, 0, 0)[:length])
+def param(name, index, offset):
+    return header(PARAMETER_KINDS[name], struct.pack("<II", index, offset))
 
 
-def required(gpa, size):
-    return header(0x305, struct.pack("<QIIII", gpa, 1, size, 0, 0))
+def context(gpa, offset=0, mask=1, length=24, vp=0):
+    return header(0x304, struct.pack("<QIIHHI", gpa, mask, offset, vp, 0, 0)[:length])
 
 
-def error_range(gpa, size):
-    return header(0x30D, struct.pack("<QII", gpa, 1, size))
+def required(gpa, size, mask=1):
+    return header(0x305, struct.pack("<QIIII", gpa, mask, size, 0, 0))
 
 
-def id_block():
-    return header(0x30B, struct.pack("<I", 1) + bytes(692))
+def error_range(gpa, size, mask=1):
+    return header(0x30D, struct.pack("<QII", gpa, mask, size))
+
+
+def id_block(digest=bytes(48), mask=1):
+    return header(0x30B, struct.pack("<I4x48s", mask, digest) + bytes(640))
 
 
 def row(parts, fill=b"\0"):

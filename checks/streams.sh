@@ -86,6 +86,23 @@ ends 0 '' "$build link >/dev/null && [ -L link ] && cmp long boot.igvm >&2"
 ends 0 '' "cp boot.igvm both; echo 'built 41640 bytes' >>both; $build /dev/stdout | cmp - both >&2"
 ends 0 '' "$build pipe >/dev/null & cat pipe | cmp - boot.igvm >&2"
 ends 0 '' "cat examples/boot.json | ./igvm build /dev/stdin out >/dev/null && cmp out boot.igvm >&2"
+# `make` writes its image first, so it stands whole where only the text fails.
+make='./igvm make 4'
+ends 0 '' "$make made >/dev/null && ./igvm print made | head -n 1 | grep -q ' total 20920 ' >&2"
+for closed in '>&-' '>/dev/full'; do
+    ends 4 "$output" "rm -f out; $make out $closed"
+    ends 0 '' 'cmp out made >&2'
+done
+ends 4 "$output" "rm -f out; set -o pipefail; { sleep 0.2; $make out; } | true"
+ends 0 '' "cmp out made >&2 && $make out >/dev/null 2>&-"
+ends 4 "$shelf" "$make /dev/full"
+ends 4 "$shelf" "$make examples >/dev/full"
+ends 4 '' "$make /dev/full 2>/dev/full"
+ends 4 "$shelf" "trap '' XFSZ; ulimit -f 16; $make out"
+ends 0 '' 'head -c 16384 made | cmp - out >&2'
+ends 0 '' "$make link >/dev/null && [ -L link ] && cmp long made >&2"
+ends 0 '' "$make pipe >/dev/null & cat pipe | cmp - made >&2"
+ends 2 '' './igvm make 2>/dev/full'
 # LIST itself, and a file that it names, may be written.
 ends 0 '' "cp examples/boot.json self; ./igvm build self self >/dev/null && cmp self boot.igvm >&2"
 ends 0 '' "$build examples/boot.pages >/dev/null && cmp examples/boot.pages boot.igvm >&2"

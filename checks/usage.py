@@ -1,19 +1,23 @@
 #!/usr/bin/env -S python3 -B
 """The program takes the words that docs/PROGRAM.md lists, and no others.
 
-Each row of words is run in a folder where a small image with three platforms lies under several names, and a list of
-one platform under several others. The usage text is read from the page; it has a line for each of FORMS. Ends with 77
-where the program isn't built.
+Each row of words is run in a folder where a small image with three platforms lies under several names, a list of one
+platform under several others, and a host description under others again. What `make` writes is maker.py's image. The
+usage text is read from the page; it has a line for each of FORMS. Ends with 77 where the program isn't built.
 """
 import os
 import sys
 import tempfile
 
 import images
+import reader
 from answers import answer
+from loader import load
+from maker import made
 from program import ROOT, Program, is_built
 
-FORMS = ("build LIST OUT", "print FILE", "measure FILE --platform P [--native-zero]")
+FORMS = ("build LIST OUT", "print FILE", "measure FILE --platform P [--native-zero]",
+         "load FILE HOST --platform P [--native-zero] [--image OUT]", "make N OUT")
 PLATFORMS = ((1, 0), (2, 3), (4, 2))           # mask and platform type: native, tdx, snp
 IMAGE = images.image_of(images.row([*(images.platform(*one) for one in PLATFORMS), images.page(0x1000, mask=6)]))
 NAMES = ("image", "-x", "measure", "print", "snp")      # the image's, all the same
@@ -23,6 +27,34 @@ LIST_NAMES = ("list", "-list", "build")                 # the list's, all the sa
 # words that build the list, and the file that they write
 BUILDING = (("build list out", "out"), ("build build made", "made"), ("build ./-list ./-out", "-out"),
             ("build list print", "print"), ("build list list", "list"))
+HOST = b'{"memory":[{"start":"0x0","bytes":"0x10000"}]}'
+HOST_NAMES = ("host", "-host", "load")                  # the host description's, all the same
+# words that load the image on the host, P, and whether `--native-zero` is among them
+LOADED = (
+    *((f"load image host --platform {wanted}", wanted, False)
+      for wanted in ("snp", "tdx", "0", "1", "2", "3", "32", "4294967295")),
+    *((f"load image host --platform {wanted} --native-zero", wanted, True)
+      for wanted in ("snp", "tdx", "0", "1", "2", "3", "4294967295")),
+    ("load image load --platform snp", "snp", False), ("load ./-x ./-host --platform tdx", "tdx", False),
+    ("load measure load --platform 2 --native-zero", "2", True), ("load snp host --platform snp", "snp", False),
+    # OUT isn't written where there is nothing to load.
+    ("load image host --platform 0 --image new", "0", False), ("load image host --platform 3 --image new", "3", False),
+    ("load image host --platform 3 --native-zero --image new", "3", True),
+)
+# the same with OUT, which is written; the last ones write over HOST and FILE
+LOADING = (
+    ("load image host --platform snp --image pages", "snp", False, "pages"),
+    ("load image host --platform tdx --image pages", "tdx", False, "pages"),
+    ("load image host --platform 2 --native-zero --image ./-pages", "2", True, "-pages"),
+    ("load image load --platform snp --native-zero --image load", "snp", True, "load"),
+    ("load image host --platform snp --image snp", "snp", False, "snp"),
+    ("load image host --platform snp --image host", "snp", False, "host"),
+    ("load image ./-host --platform snp --image image", "snp", False, "image"),
+)
+# words that make an image, of how many pages, and the file that they write; the last ones write over files of others
+MAKING = (("make 4 out", 4, "out"), ("make 1 made", 1, "made"), ("make 12 ./-made", 12, "-made"),
+          ("make 4 make", 4, "make"), ("make 10 4", 10, "4"), ("make 3 snp", 3, "snp"), ("make 2 list", 2, "list"),
+          ("make 5 host", 5, "host"), ("make 6 image", 6, "image"))
 # words that mean a job, and the command that it is
 TAKEN = (
     ("print image", "print"), ("measure image --platform snp", "measure snp"),
@@ -41,7 +73,7 @@ TAKEN = (
 REFUSED = (
     "", "print", "measure", "help", "--help", "-h", "--version", "--", "image", "PRINT image", "prin image",
     "print image image", "print image --platform snp", "print -x", "print --", "print -- image", "-- print image",
-    "image print", "print --help", "load image image --platform snp", "make 4 out",
+    "image print", "print --help",
     "build", "build list", "build list new new", "build list -new", "build -list new", "build -- list new",
     "build list --", "build list new --platform snp", "build list --platform snp", "Build list new", "list build new",
     "build --help", "build --list new", "buil list new",
@@ -74,6 +106,49 @@ REFUSED = (
     "measure image --platform=snp --native-zero", "measure -x --platform snp --native-zero",
     "print image --native-zero", "print --native-zero image", "print --native-zero", "--native-zero print image",
     "build list new --native-zero", "build --native-zero list new", "build list --native-zero", "--native-zero",
+    "load", "load image", "load image host", "load image host --platform", "load image host snp", "load --help",
+    "load image --platform snp", "load host --platform snp", "load image host image --platform snp",
+    "load image host host --platform snp", "load --platform snp image host", "load image --platform snp host",
+    "--platform snp load image host", "load -x host --platform snp", "load image -host --platform snp",
+    "load -- image host --platform snp", "load image host -- --platform snp", "load image host --platform=snp",
+    "load image host -p snp", "load image host --platform SNP", "load image host --platform sev",
+    "load image host --platform 01", "load image host --platform -1", "load image host --platform 4294967296",
+    "load image host --platform snp snp", "load image host --platform snp --platform snp",
+    "load image host --platform snp new", "load image host --platform snp --", "Load image host --platform snp",
+    "loads image host --platform snp", "loa image host --platform snp", "image load host --platform snp",
+    "load image host --platform --native-zero", "load image host --native-zero --platform snp",
+    "load --native-zero image host --platform snp", "load image host --native-zero",
+    "load image host --platform snp --native-zero --native-zero", "load image host --platform snp --native-zero new",
+    "load image host --platform snp --native-zero=true", "load image host --platform snp --native-zero --",
+    "load image host --platform snp --image", "load image host --platform snp --image -new",
+    "load image host --platform snp --image --", "load image host --platform snp --image -- new",
+    "load image host --platform snp --image --native-zero", "load image host --platform snp --image --image",
+    "load image host --platform snp --image new --native-zero", "load image host --platform snp --image new new",
+    "load image host --platform snp --image new --image new", "load image host --platform snp --image new --",
+    "load image host --platform snp --image=new", "load image host --platform snp --images new",
+    "load image host --platform snp --imag new", "load image host --platform snp --Image new",
+    "load image host --platform snp -image new", "load image host --platform snp image new",
+    "load image host --platform snp -i new", "load image host --platform snp -o new",
+    "load image host --platform snp --native-zero --image", "load image host --platform snp --native-zero --image -new",
+    "load image host --platform snp --native-zero --image new --native-zero",
+    "load image host --platform snp --native-zero --image new --image new",
+    "load image host --platform snp --native-zero --native-zero --image new",
+    "load image host --image new --platform snp", "load --image new image host --platform snp",
+    "--image new load image host --platform snp", "load image host --image new",
+    "load image --image new --platform snp",
+    "load image host --platform --image new", "load image host --platform 01 --image new",
+    "measure image --platform snp --image new", "measure image --platform snp --native-zero --image new",
+    "measure image host --platform snp", "print image --image new", "print image host", "build list new --image new",
+    "build list --image new", "--image new",
+    "make", "make 4", "make new", "make new 4", "make new new", "make 4 new new", "make 4 4 new", "make 4 new 4",
+    "make 0 new", "make 00 new", "make 04 new", "make +4 new", "make -4 new", "make -0 new", "make 100001 new",
+    "make 1000000 new", "make 4294967296 new", "make 4294967297 new", "make 18446744073709551617 new",
+    "make 99999999999999999999999999 new", "make 4.0 new", "make 4a new", "make a4 new", "make 0x4 new", "make 4e0 new",
+    "make 1,000 new", "make 1_000 new", "make \u0664 new", "make four new", "make list new", "make 4 -new", "make 4 --",
+    "make 4 -- new", "make -- 4 new", "-- make 4 new", "make --help", "make 4 --help", "make --pages 4 new",
+    "make 4 --image new", "make 4 new --native-zero", "make 4 --native-zero", "make --native-zero 4 new",
+    "make 4 new --platform snp", "make 4 --platform snp", "make 4 new --image pages", "make 4 new --native-zero new",
+    "Make 4 new", "MAKE 4 new", "mak 4 new", "makes 4 new", "--make 4 new", "4 make new", "4 new make", "new 4 make",
 )
 EMPTY = (["print", ""], ["measure", "", "--platform", "snp"], ["measure", "image", "", "snp"],
          ["measure", "image", "--platform", ""], ["", "image"], ["print image"],
@@ -82,9 +157,24 @@ EMPTY = (["print", ""], ["measure", "", "--platform", "snp"], ["measure", "image
          ["measure", "image", "--platform", "snp", "--native-zero "],
          ["measure", "image", "--platform", "snp --native-zero"],
          ["build", "", "new"], ["build", "list", ""], ["build list", "new"],
+         ["load", "", "host", "--platform", "snp"], ["load", "image", "", "--platform", "snp"],
+         ["load", "image", "host", "--platform", ""], ["load", "image", "host", "", "snp"],
+         ["load", "image host", "--platform", "snp"], ["load", "image", "host", "--platform", "snp", ""],
+         ["load", "image", "host", "--platform", "snp", "--image", ""],
+         ["load", "image", "host", "--platform", "snp", "", "new"],
+         ["load", "image", "host", "--platform", "snp", "--image new"],
+         ["load", "image", "host", "--platform", "snp", "--image", "new", ""],
+         ["load", "image", "host", "--platform", "snp", "--native-zero", "--image", ""],
+         [b"load", b"image", b"ho\xffst", b"--platform", b"snp"],
+         [b"load", b"im\xffage", b"host", b"--platform", b"snp"],
+         [b"load", b"image", b"host", b"--platform", b"snp", b"--image", b"ne\xffw"],
+         ["make", "", "new"], ["make", "4", ""], ["make", "4 ", "new"], ["make", " 4", "new"], ["make 4", "new"],
+         ["make", "4 new"], ["make", "4", "new", ""], ["", "make", "4", "new"],
+         [b"make", b"4", b"ne\xffw"], [b"make", b"4\xff", b"new"], [b"make", b"\xff", b"new"],
          [b"build", b"list", b"ne\xffw"], [b"build", b"li\xffst", b"new"], [b"print", b"im\xffage"],
          [b"measure", b"image", b"--platform", b"\xff"],
          [b"measure", b"image", b"--platform", b"snp", b"--native-zero\xff"])
+SHOWN = 100                         # bytes of a file that are printed
 
 
 def usage():
@@ -108,6 +198,8 @@ def rows():
     """(words, status, output, error) of each run that writes no file."""
     for words, command in TAKEN:
         yield words.split(), answer(command, IMAGE, None)
+    for words, *options in LOADED:
+        yield words.split(), load(IMAGE, HOST, *options)[:3]
     for words in (*(words.split() for words in REFUSED), *EMPTY):
         yield words, (2, "", usage())
     yield ["print", "missing"], (4, "", "igvm: outside fault: shelf\n")
@@ -115,13 +207,46 @@ def rows():
         yield ["measure", ".", "--platform", "0", *options], (4, "", "igvm: outside fault: shelf\n")
     for list_name, out in (("missing", "new"), (".", "new"), ("list", "."), ("list", "missing/new")):
         yield ["build", list_name, out], (4, "", "igvm: outside fault: shelf\n")
+    for files in (["missing", "host"], [".", "host"], ["image", "missing"], ["image", "."]):
+        for options in ([], ["--native-zero"], ["--image", "new"]):
+            yield ["load", *files, "--platform", "snp", *options], (4, "", "igvm: outside fault: shelf\n")
+    for out in (".", "missing/new"):
+        yield ["load", "image", "host", "--platform", "snp", "--image", out], (4, "", "igvm: outside fault: shelf\n")
+    for pages in (1, 4):
+        for out in (".", "missing/new", "image/new"):
+            yield ["make", str(pages), out], (4, "", "igvm: outside fault: shelf\n")
+    # The platform is looked up before HOST is read.
+    yield ["load", "image", "missing", "--platform", "0"], (6, "", "igvm: no digest for native\n")
     yield ["build", "image", "new"], (7, "", "igvm: json refused\n")
+    yield ["load", "image", "image", "--platform", "snp", "--image", "new"], (7, "", "igvm: json refused\n")
+    yield ["load", "list", "host", "--platform", "snp", "--image", "new"], answer(
+        "load", LIST, reader.first_fault(LIST))
+
+
+def writing_rows():
+    """(words, the file that they write, the answer, what is written then)."""
+    for words, name in BUILDING:
+        yield words, name, (0, f"built {len(BUILT)} bytes\n", ""), BUILT
+    for words, wanted, native_zero, name in LOADING:
+        loaded = load(IMAGE, HOST, wanted, native_zero)
+        yield words, name, loaded[:3], loaded.pages
+    for words, pages, name in MAKING:
+        answered = made(pages)
+        yield words, name, answered[:3], answered.image
+
+
+def read(name):
+    """The bytes of a file, or None."""
+    if not os.path.exists(name):
+        return None
+    with open(name, "rb") as file:
+        return file.read()
 
 
 def differences(folder):
     """The words that are answered otherwise, each a text, and None for the others."""
     os.chdir(folder)
-    for names, content in ((NAMES, IMAGE), (LIST_NAMES, LIST)):
+    for names, content in ((NAMES, IMAGE), (LIST_NAMES, LIST), (HOST_NAMES, HOST)):
         for name in names:
             with open(name, "wb") as file:
                 file.write(content)
@@ -132,12 +257,11 @@ def differences(folder):
         yield None if got == want else f"{words}: the program answers {got}, expected {want}"
     others = set(os.listdir(".")) - before - {"output", "error"}
     yield f"these files were written: {others}" if others else None
-    for words, name in BUILDING:
-        got = program.run(words.split())
-        with open(name, "rb") as file:
-            written = file.read()
-        is_right = got == (0, f"built {len(BUILT)} bytes\n", "") and written == BUILT
-        yield None if is_right else f"{words}: the program answers {got} and writes {written}"
+    for words, name, want, content in writing_rows():
+        got, written = program.run(words.split()), read(name)
+        is_right = got == want and written == content
+        held = "isn't there" if written is None else f"has {len(written)} bytes, {written[:SHOWN]}"
+        yield None if is_right else f"{words}: the program answers {got}, expected {want}; `{name}` {held}"
 
 
 def main():
