@@ -41,7 +41,7 @@ onto_some (suc k) n h = elim (bool_cases (n / 16 == 0)) [
   | inr more ↦ rw more (onto_more k (n / 16) (digit_glyph false (n % 16) ∷ []) (omega arith))
 ]
 
-hex_length : (n : ℕ) → n < 16 ^ 16 → length (digits 16 false n) ≤ 16
+pub hex_length : (n : ℕ) → n < 16 ^ 16 → length (digits 16 false n) ≤ 16
 unfolding digits
 hex_length n h = omega (arith, length_onto 15 64 n [] h)
 

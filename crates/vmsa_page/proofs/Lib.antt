@@ -10,6 +10,7 @@ pub mod AddressTexts
 pub mod KeyOrder
 pub mod PrintedForms
 pub mod PlainVmsas
+pub mod TextSizes
 pub mod WrittenTokens
 pub mod FieldsInOrder
 pub mod OtherEntries

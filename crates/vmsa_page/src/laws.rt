@@ -30,3 +30,9 @@ pub fn text_reads_back()
     // A law: nothing runs.
     json_forms::plain_reads_back();
 }
+
+/// The text of a page is short: at most 131,072 bytes.
+pub fn text_is_short()
+    ensures { (page : List ℕ) → length page ≤ 4096 → All (λ byte. byte < 256) page
+        → length (vmsa_json (vmsa_of page)) ≤ 131072 }
+{}

@@ -22,7 +22,7 @@ mod vmsa;
 
 pub use json_reader::read_vmsa_json;
 pub use json_writer::vmsa_text;
-pub use laws::{page_reads_back, text_reads_back, vmsa_reads_back};
+pub use laws::{page_reads_back, text_is_short, text_reads_back, vmsa_reads_back};
 pub use other_byte::OtherByte;
 pub use page_reader::read_page;
 pub use page_writer::write_page;
