@@ -1,13 +1,13 @@
 //! The job that the words ask for: docs/PROGRAM.md.
 ghost use Rattle.std.specs.Prelude.{◌≡◌, IfSome};
 ghost use Rattle.std.specs.Option.{option_map};
-ghost use Rattle.igvm_words.specs.Words.{job_of, is_file_name, build_job, print_job, measure_job, measure_options, load_job, image_option, make_job, after_flag};
+ghost use Rattle.igvm_words.specs.Words.{job_of, build_job, print_job, measure_job, measure_options, load_job, image_option, make_job, after_flag};
 ghost use Rattle.igvm_words.specs.WordsOfJob.{IsJob};
 ghost use Rattle.igvm_words.specs.JobView.{job_view, words_view};
 
 use crate::number::count_of;
 use crate::platform_choice::{PlatformChoice, choice_of};
-use crate::words::{Words, is_text};
+use crate::words::{Words, is_file_name, is_text};
 use igvm_headers::Options;
 
 /// What the program is asked to do.
@@ -124,8 +124,9 @@ fn measure_job(words: &[String]) -> Option<Job<'_>>
     }))
 }
 
-/// `[--native-zero]`, and no further word.
-fn measure_options(words: &[String]) -> Option<Options>
+/// The options that these words set: they are `[--native-zero]`, and no further word. `None` where they
+/// are other words.
+pub fn measure_options(words: &[String]) -> Option<Options>
     ensures { result ≡ measure_options (words_view words.now) }
 {
     match after_flag(words, "--native-zero") {
@@ -207,15 +208,5 @@ fn after_flag<'a>(words: &'a [String], flag: &str) -> (bool, &'a [String])
     match words {
         [word, rest @ ..] if is_text(word.as_str(), flag) => (true, rest),
         _ => (false, words),
-    }
-}
-
-/// A file's name is not empty and does not begin with `-`.
-fn is_file_name(word: &str) -> bool
-    ensures { result ≡ is_file_name word.now }
-{
-    match word.as_bytes() {
-        [] => false,
-        [first, ..] => *first != b'-',
     }
 }

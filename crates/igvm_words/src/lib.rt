@@ -9,7 +9,8 @@ mod platform_choice;
 mod tests;
 mod words;
 
-pub use job::{Job, LoadWords, MeasureWords, job_of};
+pub use job::{Job, LoadWords, MeasureWords, job_of, measure_options};
 pub use laws::words_of_a_job;
-pub use platform_choice::PlatformChoice;
-pub use words::Words;
+pub use number::number_of;
+pub use platform_choice::{PlatformChoice, choice_of};
+pub use words::{Words, is_file_name, is_text};

@@ -15,9 +15,10 @@ pub(crate) fn count_of(word: &str) -> Option<u32>
     (1 <= count && count <= MOST_PAGES).then_some(count)
 }
 
-/// The number of 32 bits that a word is.
+/// The number of 32 bits that a word is, in decimal digits with no sign and no leading zero. `None` for
+/// every other word.
 #[tactic(auto, using(crate::proofs::NumberLemmas::parsed, crate::proofs::NumberLemmas::other_word))]
-pub(crate) fn number_of(word: &str) -> Option<u32>
+pub fn number_of(word: &str) -> Option<u32>
     ensures { result ≡ number_of word.now }
 {
     if is_decimal(word.as_bytes()) {

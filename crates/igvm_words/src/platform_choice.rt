@@ -17,7 +17,8 @@ pub enum PlatformChoice {
     Numbered(u32),
 }
 
-/// The platform that a word asks for: `snp`, `tdx` or a number.
+/// The platform that a word asks for: `snp`, `tdx` or a number of 32 bits, as `number_of` reads it.
+/// `None` for every other word.
 #[tactic(auto, unfolding(crate::specs::Words::choice_of))]
 pub fn choice_of(word: &str) -> Option<PlatformChoice>
     ensures { option_map choice_view result ≡ choice_of word.now }

@@ -1,6 +1,6 @@
 //! The words that the program was given.
 ghost use Rattle.igvm_words.specs.JobView.{words_view};
-ghost use Rattle.igvm_words.specs.Words.{is_text};
+ghost use Rattle.igvm_words.specs.Words.{is_text, is_file_name};
 ghost use Rattle.std.specs.Prelude.{◌≡◌, [], ◌∷◌, ◌++◌, OnOk, OnErr};
 
 use igvm_headers::Memory;
@@ -55,9 +55,19 @@ impl Words {
     }
 }
 
-/// A word is this text.
+/// Whether a word is this text, byte for byte.
 pub fn is_text(word: &str, text: &str) -> bool
     ensures { result ≡ is_text word.now text.now }
 {
     word == text
+}
+
+/// Whether a word can name a file: it is not empty and does not begin with `-`.
+pub fn is_file_name(word: &str) -> bool
+    ensures { result ≡ is_file_name word.now }
+{
+    match word.as_bytes() {
+        [] => false,
+        [first, ..] => *first != b'-',
+    }
 }

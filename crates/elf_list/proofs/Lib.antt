@@ -1,0 +1,9 @@
+pub mod RuleParts
+pub mod Counting
+pub mod PageBytes
+pub mod PagesKept
+pub mod Valid
+pub mod Splits
+pub mod ElfHeaders
+pub mod PlacedBytes
+pub mod OtherPages

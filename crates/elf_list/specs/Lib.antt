@@ -1,0 +1,10 @@
+pub mod ElfParts
+pub mod GuestMemory
+pub use Rattle.platform_masks.specs.Masks
+pub use Rattle.elf_pages.specs.Faults
+pub use Rattle.elf_pages.specs.GuestBytes
+pub use Rattle.elf_pages.specs.Pages
+pub use Rattle.component_list.specs.Lists
+pub use Rattle.image_builder.specs.Layout
+pub use Rattle.directive_rules.specs.FirstMisfit
+pub use Rattle.image_loader.specs.Loads

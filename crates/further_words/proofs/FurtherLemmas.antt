@@ -1,0 +1,93 @@
+-- Words mean a further job exactly where they are its words, and then no first job.
+use Rattle.std.proofs.Common.{◌≡◌, ℕ, ◌↔◌, List, [], ◌∷◌, refl, sym, ◌∙◌, ap, subst, Bool, true, false, Option, Some, None}
+use Rattle.std.specs.Prelude.{◌&&◌, codes, if◌then◌else◌}
+use Rattle.std.specs.Option.{option_map}
+use Rattle.std.specs.Fmt.{decimal}
+use Rattle.std.proofs.lemmas.Option.{cond_some}
+use Rattle.igvm_words.specs.Words.{Job, job_of, is_text, is_file_name, number_of}
+use Rattle.further_words.specs.FurtherWords.{FurtherJob, VmsaBuild, VmsaPrint, BuildElf, further_of, vmsa_build_job, vmsa_print_job, build_elf_job}
+use Rattle.further_words.specs.WordsOfFurther.{IsFurther, further_words, MeansFurther}
+use Rattle.further_words.proofs.TestLemmas.{both_left, both_right, text_same, taken_if, mapped}
+use Rattle.further_words.proofs.NumberWords.{WordsOfJobs, number_word, number_back}
+
+-- ---- from the words to the job
+
+vmsa_build_forth : (words : List (List ℕ)) (job : FurtherJob) → vmsa_build_job words ≡ Some job → MeansFurther (codes "vmsa-build" ∷ words) job
+vmsa_build_forth [] job h = cc
+vmsa_build_forth (json ∷ []) job h = cc
+vmsa_build_forth (json ∷ target ∷ []) job h =
+    let c = cond_some _ _ _ h in
+    subst (λ j. MeansFurther (codes "vmsa-build" ∷ json ∷ target ∷ []) j) c.1
+    (record { possible = (both_left (is_file_name json) _ c.0, both_right (is_file_name json) _ c.0); same = refl })
+vmsa_build_forth (json ∷ target ∷ word ∷ words) job h = cc
+
+vmsa_print_forth : (words : List (List ℕ)) (job : FurtherJob) → vmsa_print_job words ≡ Some job → MeansFurther (codes "vmsa-print" ∷ words) job
+vmsa_print_forth [] job h = cc
+vmsa_print_forth (file ∷ []) job h =
+    let c = cond_some _ _ _ h in
+    subst (λ j. MeansFurther (codes "vmsa-print" ∷ file ∷ []) j) c.1 (record { possible = c.0; same = refl })
+vmsa_print_forth (file ∷ word ∷ words) job h = cc
+
+build_elf_forth : WordsOfJobs → (words : List (List ℕ)) (job : FurtherJob) → build_elf_job words ≡ Some job → MeansFurther (codes "build-elf" ∷ words) job
+build_elf_forth words_mean [] job h = cc
+build_elf_forth words_mean (list ∷ []) job h = cc
+build_elf_forth words_mean (list ∷ elf ∷ []) job h = cc
+build_elf_forth words_mean (list ∷ elf ∷ number ∷ []) job h = cc
+build_elf_forth words_mean (list ∷ elf ∷ number ∷ target ∷ []) job h =
+    let t = taken_if _ _ job h in
+    let files = both_left (is_file_name list && is_file_name elf) _ t.0 in
+    let m = mapped (λ mask. BuildElf (record { list = list; elf = elf; mask = mask; target = target })) (number_of number) job t.1 in
+    let n = number_word words_mean number m.0 m.1 in
+    subst (λ j. MeansFurther (codes "build-elf" ∷ list ∷ elf ∷ number ∷ target ∷ []) j) m.2
+    (record {
+      possible = (both_left (is_file_name list) _ files, both_right (is_file_name list) _ files, n.1, both_right (is_file_name list && is_file_name elf) _ t.0);
+      same = ap (λ w. codes "build-elf" ∷ list ∷ elf ∷ w ∷ target ∷ []) n.0;
+    })
+build_elf_forth words_mean (list ∷ elf ∷ number ∷ target ∷ word ∷ words) job h = cc
+
+-- words behind the name of this command, or the words of another
+by_name : (name command : List ℕ) (words : List (List ℕ)) (this others : Option FurtherJob) (job : FurtherJob)
+    → (this ≡ Some job → MeansFurther (name ∷ words) job) → (others ≡ Some job → MeansFurther (command ∷ words) job)
+    → (if is_text command name then this else others) ≡ Some job → MeansFurther (command ∷ words) job
+by_name name command words this others job here there h = cases (is_text command name) refl h
+  where
+    cases : (b : Bool) → is_text command name ≡ b → (if b then this else others) ≡ Some job → MeansFurther (command ∷ words) job
+    cases true same h = subst (λ c. MeansFurther (c ∷ words) job) (sym (text_same command name same)) (here h)
+    cases false other h = there h
+
+forth : WordsOfJobs → (words : List (List ℕ)) (job : FurtherJob) → further_of words ≡ Some job → MeansFurther words job
+unfolding further_of
+forth words_mean [] job h = cc
+forth words_mean (command ∷ words) job h =
+    by_name (codes "vmsa-build") command words _ _ job (vmsa_build_forth words job)
+    (by_name (codes "vmsa-print") command words _ _ job (vmsa_print_forth words job)
+    (by_name (codes "build-elf") command words _ _ job (build_elf_forth words_mean words job) (λ h. cc))) h
+
+-- ---- from the job to its words
+
+back : WordsOfJobs → (job : FurtherJob) → IsFurther job → further_of (further_words job) ≡ Some job
+unfolding further_of
+back words_mean (VmsaBuild json target) h =
+    ap (λ b. if b && is_file_name target then Some (VmsaBuild json target) else None) h.0
+    ∙ ap (λ b. if b then Some (VmsaBuild json target) else None) h.1
+back words_mean (VmsaPrint file) h = ap (λ b. if b then Some (VmsaPrint file) else None) h
+back words_mean (BuildElf words) h =
+    let asked = λ (number : Option ℕ). option_map (λ mask. BuildElf (record words { mask = mask })) number in
+    let found = λ (b : Bool). if b then asked (number_of (decimal words.mask)) else None in
+    ap (λ b. found (b && is_file_name words.elf && is_file_name words.target)) h.0
+    ∙ ap (λ b. found (b && is_file_name words.target)) h.1 ∙ ap found h.3 ∙ ap asked (number_back words_mean words.mask h.2)
+
+pub words_mean_further : WordsOfJobs → (words : List (List ℕ)) (job : FurtherJob) → (further_of words ≡ Some job) ↔ MeansFurther words job
+words_mean_further words_mean words job = (forth words_mean words job, λ m. ap further_of m.same ∙ back words_mean job m.possible)
+
+-- ---- no first job
+
+no_first : (job : FurtherJob) → job_of (further_words job) ≡ None
+unfolding job_of
+no_first (VmsaBuild json target) = refl
+no_first (VmsaPrint file) = refl
+no_first (BuildElf words) = refl
+
+pub one_job : WordsOfJobs → (words : List (List ℕ)) (job : Job) (further : FurtherJob) → job_of words ≡ Some job → further_of words ≡ Some further → ⊥
+one_job words_mean words job further first h =
+    let none = ap job_of (forth words_mean words further h).same ∙ no_first further in cc

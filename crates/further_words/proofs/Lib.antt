@@ -1,0 +1,3 @@
+mod TestLemmas
+mod NumberWords
+mod FurtherLemmas

@@ -1,0 +1,3 @@
+pub mod FurtherWords
+pub mod WordsOfFurther
+pub mod FurtherView

@@ -1,0 +1,23 @@
+-- The words of a further job.
+use Rattle.std.specs.Prelude.{◌≡◌, ℕ, ◌^◌, ◌<◌, true, List, [], ◌∷◌, codes}
+use Rattle.std.specs.Fmt.{decimal}
+use Rattle.igvm_words.specs.Words.{is_file_name}
+use Rattle.further_words.specs.FurtherWords.{FurtherJob, VmsaBuild, VmsaPrint, BuildElf}
+
+-- a further job that words can ask for
+abbrev pub IsFurther : FurtherJob → Type 0
+IsFurther (VmsaBuild json target) = (is_file_name json ≡ true) × (is_file_name target ≡ true)
+IsFurther (VmsaPrint file) = is_file_name file ≡ true
+IsFurther (BuildElf words) =
+    (is_file_name words.list ≡ true) × (is_file_name words.elf ≡ true) × (words.mask < 2 ^ 32) × (is_file_name words.target ≡ true)
+
+-- the words of a further job, in their order
+abbrev pub further_words : FurtherJob → List (List ℕ)
+further_words (VmsaBuild json target) = codes "vmsa-build" ∷ json ∷ target ∷ []
+further_words (VmsaPrint file) = codes "vmsa-print" ∷ file ∷ []
+further_words (BuildElf words) = codes "build-elf" ∷ words.list ∷ words.elf ∷ decimal words.mask ∷ words.target ∷ []
+
+-- the words are exactly those of a further job
+pub record MeansFurther (words : List (List ℕ)) (job : FurtherJob) : Type 0 where
+  pub possible : IsFurther job
+  pub same : words ≡ further_words job

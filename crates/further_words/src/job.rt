@@ -1,0 +1,106 @@
+//! The further job that the words ask for.
+ghost use Rattle.std.specs.Prelude.{◌≡◌, IfSome};
+ghost use Rattle.std.specs.Option.{option_map};
+ghost use Rattle.igvm_words.specs.JobView.{words_view};
+ghost use Rattle.further_words.specs.FurtherWords.{further_of, vmsa_build_job, vmsa_print_job, build_elf_job};
+ghost use Rattle.further_words.specs.WordsOfFurther.{IsFurther};
+ghost use Rattle.further_words.specs.FurtherView.{further_view};
+
+use igvm_words::{Words, is_file_name, is_text, number_of};
+
+/// What the program is asked to do by a further command.
+#[derive(Clone, Copy)]
+pub enum FurtherJob<'a> {
+    /// `vmsa-build JSON OUT`
+    VmsaBuild { json: &'a str, target: &'a str },
+    /// `vmsa-print FILE`
+    VmsaPrint { file: &'a str },
+    /// `build-elf LIST ELF MASK OUT`
+    BuildElf(ElfWords<'a>),
+}
+
+/// What an image with the pages of an ELF file is built of.
+#[derive(Clone, Copy)]
+pub struct ElfWords<'a> {
+    /// The name of the component list.
+    pub list: &'a str,
+    /// The ELF file's name.
+    pub elf: &'a str,
+    /// The mask of the platforms that the pages are for.
+    pub mask: u32,
+    /// The name of the image file.
+    pub target: &'a str,
+}
+
+/// The further job that these words mean, if they mean one: `None` where they are those of another
+/// command, or of none.
+#[tactic(auto, unfolding(crate::specs::FurtherWords::further_of))]
+pub fn further_of(words: &Words) -> Option<FurtherJob<'_>>
+    ensures meant { option_map further_view result ≡ further_of words.now }
+    ensures possible { IfSome result (λ job. IsFurther (further_view job)) }
+{
+    let [command, rest @ ..] = words.as_slice() else {
+        return None;
+    };
+    let command = command.as_str();
+    if is_text(command, "vmsa-build") {
+        return vmsa_build_job(rest);
+    }
+    if is_text(command, "vmsa-print") {
+        return vmsa_print_job(rest);
+    }
+    if is_text(command, "build-elf") {
+        return build_elf_job(rest);
+    }
+    None
+}
+
+/// `JSON OUT`
+fn vmsa_build_job(words: &[String]) -> Option<FurtherJob<'_>>
+    ensures meant { option_map further_view result ≡ vmsa_build_job (words_view words.now) }
+    ensures possible { IfSome result (λ job. IsFurther (further_view job)) }
+{
+    let [json, target] = words else {
+        return None;
+    };
+    let (json, target) = (json.as_str(), target.as_str());
+    if is_file_name(json) && is_file_name(target) {
+        Some(FurtherJob::VmsaBuild { json, target })
+    } else {
+        None
+    }
+}
+
+/// `FILE`
+fn vmsa_print_job(words: &[String]) -> Option<FurtherJob<'_>>
+    ensures meant { option_map further_view result ≡ vmsa_print_job (words_view words.now) }
+    ensures possible { IfSome result (λ job. IsFurther (further_view job)) }
+{
+    match words {
+        [file] if is_file_name(file.as_str()) => Some(FurtherJob::VmsaPrint {
+            file: file.as_str(),
+        }),
+        _ => None,
+    }
+}
+
+/// `LIST ELF MASK OUT`
+fn build_elf_job(words: &[String]) -> Option<FurtherJob<'_>>
+    ensures meant { option_map further_view result ≡ build_elf_job (words_view words.now) }
+    ensures possible { IfSome result (λ job. IsFurther (further_view job)) }
+{
+    let [list, elf, number, target] = words else {
+        return None;
+    };
+    let (list, elf, target) = (list.as_str(), elf.as_str(), target.as_str());
+    if !(is_file_name(list) && is_file_name(elf) && is_file_name(target)) {
+        return None;
+    }
+    let mask = number_of(number.as_str())?;
+    Some(FurtherJob::BuildElf(ElfWords {
+        list,
+        elf,
+        mask,
+        target,
+    }))
+}

@@ -1,0 +1,3 @@
+pub mod PageBytes
+pub mod HashedHeaders
+pub mod SevDigests
