@@ -1,10 +1,7 @@
-pub mod JobAnswerLemmas
-pub mod BuildLemmas
-pub mod EndingLemmas
-pub mod ImageFileLemmas
-pub mod LoadAnswerLemmas
-pub mod LoadLemmas
-pub mod HeadlineLemmas
-pub mod LaunchLemmas
-pub mod LoadInWords
-pub mod MakeLemmas
+pub mod ShortFileLemmas
+pub mod FurtherTaskLemmas
+pub mod VmsaAnswerLemmas
+pub mod VmsaTextLemmas
+pub mod ElfLemmas
+pub mod ElfAnswerLemmas
+pub mod ElfGuestLemmas

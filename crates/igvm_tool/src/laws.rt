@@ -1,96 +1,85 @@
-//! What holds of all that the top call promises: laws, functions that do nothing.
-ghost use Rattle.std.specs.Prelude.{ℕ, List, Option, Some, IfSome};
-ghost use Rattle.platform_masks.specs.declared.platform.Platform.{Platform};
-ghost use Rattle.host_set.specs.declared.range.PlanRange.{PlanRange};
-ghost use Rattle.host_set.specs.Hosts.{HostValues};
+//! What holds of all that is promised of the further commands: laws, functions that do nothing.
+ghost use Rattle.std.specs.Prelude.{◌≡◌, ◌≤◌, ◌<◌, ◌-◌, ◌^◌, ◌++◌, ℕ, List, All, Option, Some, length, replicate};
+ghost use Rattle.std.specs.FinMap as map;
 ghost use Rattle.igvm_outside.specs.Files.{Files};
-ghost use Rattle.igvm_words.specs.Words.{Job, Build, Print, Measure, MeasureWords, Load, LoadWords, Make};
-ghost use Rattle.igvm_tool.specs.declared.status.Status as status;
-ghost use Rattle.igvm_tool.specs.Clauses.{KeepsPromises, Gains, IsPut};
-ghost use Rattle.igvm_tool.specs.Headline.{IsAsked, Agree};
-ghost use Rattle.igvm_tool.specs.JobAnswers.{FollowsFiles, PrintAnswers, MeasureAnswers, BuildAnswers, LoadAnswers, LoadIsTold, MakeAnswers};
+ghost use Rattle.image_builder.specs.Layout.{layout};
+ghost use Rattle.elf_list.specs.ElfParts.{with_elf_pages};
+ghost use Rattle.further_words.specs.FurtherWords.{ElfWords};
+ghost use Rattle.vmsa_page.specs.Pages.{vmsa_of};
+ghost use Rattle.vmsa_page.specs.Texts.{vmsa_json};
+ghost use Rattle.igvm_jobs.specs.declared.status.Status as status;
+ghost use Rattle.igvm_jobs.specs.Clauses.{KeepsPromises, Gains, IsPut};
+ghost use Rattle.igvm_jobs.specs.Outcome.{done, done_writing};
+ghost use Rattle.igvm_jobs.specs.Texts.{built_text};
+ghost use Rattle.igvm_tool.specs.VmsaJobs.{vmsa_build_task, vmsa_print_task};
+ghost use Rattle.igvm_tool.specs.BuildElfJob.{build_elf_task};
+ghost use Rattle.igvm_tool.specs.FurtherAnswers.{VmsaBuildAnswers, VmsaPrintAnswers, IsElfBuilt, ElfAnswers};
+ghost use Rattle.igvm_tool.specs.ElfInGuest.{AlwaysPlacesElf};
 
-use crate::status::Status;
 use igvm_outside::{Shelf, Sink};
 use launch_platform::Launch;
 
-/// Where the files are told, all that is promised holds of what the job gives over them.
-pub fn told_files_decide<S: Shelf, O: Sink, E: Sink, L: Launch>()
-    ensures { (job : Option Job) (status : status.Status)
+/// Whatever is told, `vmsa-build` writes the page of the VMSA that some text describes, as long as JSON
+/// gave, or says in one of its texts why not.
+pub fn vmsa_build_answers<S: Shelf, O: Sink, E: Sink, L: Launch>()
+    ensures { (json target : List ℕ) (status : status.Status)
         (shelf shelf' : S) (out out' : O) (err err' : E) (machine machine' : L)
-        → KeepsPromises S.Shelf O.Sink E.Sink L.Launch job status
+        → KeepsPromises S.Shelf O.Sink E.Sink L.Launch (vmsa_build_task json target) status
         shelf shelf' out out' err err' machine machine'
-        → IfSome (S.told shelf)
-        (FollowsFiles S.Shelf O.Sink E.Sink L.Launch job status shelf shelf' out out' err err'
-        machine machine') }
+        → VmsaBuildAnswers target status (S.given shelf') (S.told shelf) (S.told shelf')
+        (λ text. Gains O.Sink text out out') (λ text. IsPut E.Sink text err err') }
 {}
 
-/// Whatever is told, `print` answers for some bytes of FILE, as many as it gave.
-pub fn print_answers<S: Shelf, O: Sink, E: Sink, L: Launch>()
+/// Whatever is told, `vmsa-print` puts the text of some page, as long as FILE gave, or says that it gave
+/// too much.
+pub fn vmsa_print_answers<S: Shelf, O: Sink, E: Sink, L: Launch>()
     ensures { (file : List ℕ) (status : status.Status)
         (shelf shelf' : S) (out out' : O) (err err' : E) (machine machine' : L)
-        → KeepsPromises S.Shelf O.Sink E.Sink L.Launch (Some (Print file)) status
+        → KeepsPromises S.Shelf O.Sink E.Sink L.Launch (vmsa_print_task file) status
         shelf shelf' out out' err err' machine machine'
-        → PrintAnswers status (S.given shelf')
+        → VmsaPrintAnswers status (S.given shelf')
         (λ text. Gains O.Sink text out out') (λ text. IsPut E.Sink text err err') }
 {}
 
-/// Whatever is told, `measure` answers for some bytes of FILE, as many as it gave.
-pub fn measure_answers<S: Shelf, O: Sink, E: Sink, L: Launch>()
-    ensures { (words : MeasureWords) (status : status.Status)
+/// Building what was printed of a page gives that page, followed by zeros up to 4,096 bytes.
+pub fn printed_vmsa_is_built()
+    ensures printed { (files : Files) (file page : List ℕ) → map.get files file ≡ Some page
+        → length page ≤ 4096
+        → (vmsa_print_task file).outcome files ≡ done (vmsa_json (vmsa_of page)) }
+    ensures built { (files : Files) (json target page : List ℕ)
+        → length page ≤ 4096 → All (λ byte. byte < 256) page
+        → map.get files json ≡ Some (vmsa_json (vmsa_of page))
+        → (vmsa_build_task json target).outcome files
+        ≡ done_writing target (page ++ replicate (4096 - length page) 0) (built_text 4096) }
+{
+    // Laws: nothing runs.
+    vmsa_page::page_reads_back();
+    vmsa_page::text_reads_back();
+    vmsa_page::text_is_short();
+}
+
+/// Whatever is told, `build-elf` writes the image of some list with the pages of some ELF file, as long
+/// as ELF gave, or says in one of its texts why not.
+pub fn elf_answers<S: Shelf, O: Sink, E: Sink, L: Launch>()
+    ensures { (words : ElfWords) (status : status.Status)
         (shelf shelf' : S) (out out' : O) (err err' : E) (machine machine' : L)
-        → KeepsPromises S.Shelf O.Sink E.Sink L.Launch (Some (Measure words)) status
+        → KeepsPromises S.Shelf O.Sink E.Sink L.Launch (build_elf_task words) status
         shelf shelf' out out' err err' machine machine'
-        → MeasureAnswers words status (S.given shelf')
+        → ElfAnswers words status (S.given shelf') (S.told shelf) (S.told shelf')
         (λ text. Gains O.Sink text out out') (λ text. IsPut E.Sink text err err') }
 {}
 
-/// Whatever is told, `build` writes the image of some components, or says in one of its texts why not.
-pub fn build_answers<S: Shelf, O: Sink, E: Sink, L: Launch>()
-    ensures { (list target : List ℕ) (status : status.Status)
-        (shelf shelf' : S) (out out' : O) (err err' : E) (machine machine' : L)
-        → KeepsPromises S.Shelf O.Sink E.Sink L.Launch (Some (Build list target)) status
-        shelf shelf' out out' err err' machine machine'
-        → BuildAnswers target status (S.given shelf') (S.told shelf) (S.told shelf')
-        (λ text. Gains O.Sink text out out') (λ text. IsPut E.Sink text err err') }
-{}
-
-/// Whatever is told, `load` refuses FILE, P or HOST; or it judges some image that has a digest, on the host that some
-/// text describes, as long as HOST gave: it names the first misfit, or is done where there is none, and puts that digest.
-pub fn load_answers<S: Shelf, O: Sink, E: Sink, L: Launch>()
-    ensures { (words : LoadWords) (status : status.Status)
-        (shelf shelf' : S) (out out' : O) (err err' : E) (machine machine' : L)
-        → KeepsPromises S.Shelf O.Sink E.Sink L.Launch (Some (Load words)) status
-        shelf shelf' out out' err err' machine machine'
-        → LoadAnswers words status (S.given shelf')
-        (λ text. Gains O.Sink text out out') (λ text. IsPut E.Sink text err err') }
-{}
-
-/// Whatever is told, a `load` that is done has told what its machine then holds.
-pub fn load_is_told<S: Shelf, O: Sink, E: Sink, L: Launch>()
-    ensures { (words : LoadWords) (shelf shelf' : S) (out out' : O) (err err' : E) (machine machine' : L)
-        → KeepsPromises S.Shelf O.Sink E.Sink L.Launch (Some (Load words)) Status.Done
-        shelf shelf' out out' err err' machine machine'
-        → LoadIsTold O.Sink L.Launch out out' machine' }
-{}
-
-/// Whatever is told, `make` writes the image of so many pages and puts what came out, or the outside or
-/// memory failed.
-pub fn make_answers<S: Shelf, O: Sink, E: Sink, L: Launch>()
-    ensures { (count : ℕ) (target : List ℕ) (status : status.Status)
-        (shelf shelf' : S) (out out' : O) (err err' : E) (machine machine' : L)
-        → KeepsPromises S.Shelf O.Sink E.Sink L.Launch (Some (Make count target)) status
-        shelf shelf' out out' err err' machine machine'
-        → MakeAnswers count target status (S.told shelf) (S.told shelf')
-        (λ text. Gains O.Sink text out out') }
-{}
-
-/// The headline. For each accepted file, each platform of it that has a digest, every host description that is
-/// read, and the same options: `load` is done exactly where the image has no misfit, and then puts the digest
-/// that `measure` puts; else it names the first misfit.
-pub fn load_agrees_with_measure()
-    ensures { (files : Files) (words : LoadWords) (bytes : List ℕ) (platform : Platform)
-        (plan : List PlanRange) (host : HostValues)
-        → IsAsked files words bytes platform plan host
-        → Agree files words bytes platform plan host }
-{}
+/// Where `build-elf` is done, the image that it wrote has the ELF file in guest memory: on each platform
+/// that the mask names, and on each host that the image fits, a load places the file's bytes at the
+/// addresses of its pages, and no others there.
+pub fn built_elf_is_in_the_guest<O: Sink>()
+    ensures { (words : ElfWords) (given : ℕ) (told told' : Option Files) (out out' : O) → words.mask < 2 ^ 32
+        → (built : IsElfBuilt words given told told' (λ text. Gains O.Sink text out out'))
+        → AlwaysPlacesElf (layout (with_elf_pages built.parts built.file words.mask)) words.mask
+        built.file }
+{
+    // Laws: nothing runs.
+    image_builder::layout_has_its_size();
+    elf_list::list_with_elf_pages_is_a_list();
+    elf_list::elf_bytes_are_placed();
+}

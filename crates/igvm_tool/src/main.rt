@@ -1,32 +1,23 @@
-//! Builds, prints, measures, loads and makes IGVM images: docs/PROGRAM.md.
+//! Builds, prints, measures, loads and makes IGVM images, and what goes into them: docs/PROGRAM.md.
 #![tactic(auto)]
 
-mod building;
-mod file_reading;
-mod host_file;
-mod image_file;
-mod launch_texts;
-mod launching;
+mod elf_building;
+mod elf_texts;
+mod further;
 mod laws;
-mod list_file;
-mod loading;
-mod making;
-mod measuring;
-mod printing;
-mod refusal;
 mod running;
-mod status;
 #[cfg(test)]
 mod tests;
 mod texts;
+mod vmsa_building;
+mod vmsa_printing;
 
 use igvm_headers::Memory;
+use igvm_jobs::{Refusal, Status, finish};
 use igvm_outside::{StdShelf, StdSink};
 use igvm_words::Words;
 use launch_platform::MemLaunch;
-use refusal::{Refusal, finish};
-use running::run;
-use status::Status;
+use running::run_all;
 use std::process::ExitCode;
 use std::{env, io};
 
@@ -53,7 +44,7 @@ fn status_of(rt: HostRuntime) -> Status {
     let mut shelf = StdShelf::new(rt);
     let mut out = StdSink::output(rt);
     let mut machine = MemLaunch::new(rt.alloc());
-    run(
+    run_all(
         rt.alloc(),
         &words,
         &mut shelf,

@@ -1,33 +1,17 @@
-//! Worked examples through `run`, over shelves, outputs and machines in memory. An image is written in
-//! hexadecimal digits; its checksum is from Python's `zlib`, its digests are from `hashlib`.
-mod built_images;
-mod faults;
-mod limits;
-mod listings;
-mod load_faults;
-mod load_images;
-mod loads;
-mod long_listings;
-mod made_images;
-mod native_zero;
-mod page_bytes;
-mod pages_files;
-mod platforms;
-mod refused_files;
-mod refused_lists;
-mod snp_digests;
-mod tdx_digests;
+//! Worked examples through `run_all`, over shelves, outputs and machines in memory.
+mod elf_images;
+mod further_faults;
 mod usage;
+mod vmsa_pages;
 
-use crate::running::run;
-use crate::status::Status;
+use crate::running::run_all;
 use igvm_headers::Memory;
-use igvm_outside::{MemShelf, MemSink, Shelf};
+use igvm_jobs::Status;
+use igvm_outside::{MemShelf, MemSink};
 use igvm_words::Words;
-use launch_platform::MemLaunch;
+use launch_platform::{Launch, MemLaunch, Phase};
 use std::alloc::Global;
 use std::process::Abort;
-use std::test::Fail;
 
 /// Words that stand between single spaces.
 fn words_of(alloc: Global, text: &str) -> Result<Words, Memory> {
@@ -38,71 +22,22 @@ fn words_of(alloc: Global, text: &str) -> Result<Words, Memory> {
     Ok(words)
 }
 
-/// A shelf whose one file, FILE, has these bytes.
-fn shelf_of(alloc: Global, file: &[u8]) -> Result<MemShelf, Memory> {
-    let mut shelf = MemShelf::new(alloc);
-    shelf.put_file("FILE", file)?;
-    Ok(shelf)
-}
-
-/// Runs words over a shelf. The status, the output and the error output must be these.
-fn must_run<S: Shelf>(
+/// Runs words over a shelf. The status, the output and the error output must be these, and the machine
+/// is idle.
+fn must_run(
     rt: &impl Abort,
     name: &str,
     alloc: Global,
     words: &Words,
-    shelf: &mut S,
+    shelf: &mut MemShelf,
     want: (Status, &str, &str),
 ) {
     let mut out = MemSink::new(alloc);
     let mut err = MemSink::new(alloc);
     let mut machine = MemLaunch::new(alloc);
-    let status = run(alloc, words, shelf, &mut out, &mut err, &mut machine);
+    let status = run_all(alloc, words, shelf, &mut out, &mut err, &mut machine);
     assert_eq!(rt; status, want.0, "{name}");
     assert_eq!(rt; out.bytes(), want.1.as_bytes(), "{name}");
     assert_eq!(rt; err.bytes(), want.2.as_bytes(), "{name}");
-}
-
-/// An output that takes pieces of this size, and fails at one call, or at none where that is 0.
-fn failing_sink(alloc: Global, piece: usize, call: u64) -> Result<MemSink, Memory> {
-    let mut sink = MemSink::new(alloc);
-    sink.set_piece(usize::max(piece, 1));
-    sink.fail_call(call)?;
-    Ok(sink)
-}
-
-/// How a run ended, and what it put.
-#[derive(Drop)]
-struct Ran {
-    status: Status,
-    out: MemSink,
-    err: MemSink,
-}
-
-fn run_with(
-    alloc: Global,
-    words: &Words,
-    shelf: &mut MemShelf,
-    mut out: MemSink,
-    mut err: MemSink,
-) -> Ran {
-    let mut machine = MemLaunch::new(alloc);
-    let status = run(alloc, words, shelf, &mut out, &mut err, &mut machine);
-    Ran { status, out, err }
-}
-
-/// The start of a file, and headers that have the numbers from 0 on between the same bytes.
-fn numbered(
-    alloc: Global,
-    start: &str,
-    header: (&[u8], &[u8]),
-    count: u32,
-) -> Result<Vec<u8>, Fail> {
-    let mut file = hex::decode(alloc, start)?;
-    for number in 0..count {
-        file.extend_from_slice(header.0)?;
-        file.extend_from_slice(&number.to_le_bytes())?;
-        file.extend_from_slice(header.1)?;
-    }
-    Ok(file)
+    assert_eq!(rt; machine.phase(), Phase::Idle, "{name}");
 }

@@ -1,6 +1,7 @@
 //! The words.
-use super::{must_run, shelf_of, words_of};
-use crate::status::Status;
+use super::{must_run, words_of};
+use igvm_jobs::Status;
+use igvm_outside::MemShelf;
 use igvm_words::Words;
 use std::test::Fail;
 
@@ -10,25 +11,38 @@ usage: igvm build LIST OUT
        igvm measure FILE --platform P [--native-zero]
        igvm load FILE HOST --platform P [--native-zero] [--image OUT]
        igvm make N OUT
+       igvm vmsa-build JSON OUT
+       igvm vmsa-print FILE
+       igvm build-elf LIST ELF MASK OUT
 P is snp, tdx or a platform number
 ";
 
 /// Words that mean no job. The image would be accepted.
-static OTHERS: [&str; 5] = [
+static OTHERS: [&str; 9] = [
     "measure FILE",
     "measure --platform snp FILE",
     "measure FILE --platform=snp",
     "measure FILE --platform 01",
     "load FILE HOST --platform snp --image OUT --native-zero",
+    "vmsa-build FILE",
+    "vmsa-print FILE OUT",
+    "build-elf LIST FILE OUT",
+    "build-elf LIST FILE 01 OUT",
 ];
 
 const IMAGE: &str = "4947564d01000000180000001800000030000000e5d3ab67\
         010000001000000001000000000201000000000000000000";
 
+const LISTING: &str = "\
+igvm version 1 section 24 24 total 48 headers 1
+0 at 24 platform 0 mask 00000001 kind snp vtl 0 version 1 shared 0000000000000000
+";
+
 #[test]
 fn refuses_other_words(rt: HostRuntime) -> Result<(), Fail> {
     let want = (Status::Usage, "", USAGE);
-    let mut shelf = shelf_of(rt.alloc(), &hex::decode(rt.alloc(), IMAGE)?)?;
+    let mut shelf = MemShelf::new(rt.alloc());
+    shelf.put_file("FILE", &hex::decode(rt.alloc(), IMAGE)?)?;
     must_run(
         &rt,
         "no word",
@@ -41,6 +55,9 @@ fn refuses_other_words(rt: HostRuntime) -> Result<(), Fail> {
         let words = words_of(rt.alloc(), text)?;
         must_run(&rt, text, rt.alloc(), &words, &mut shelf, want);
     }
+    let words = words_of(rt.alloc(), "print FILE")?;
+    let want = (Status::Done, LISTING, "");
+    must_run(&rt, "print", rt.alloc(), &words, &mut shelf, want);
     Ok(())
 }
 

@@ -1,0 +1,13 @@
+pub mod EndingLemmas
+pub mod ImageFileLemmas
+pub mod ListLemmas
+pub mod WriteLemmas
+pub mod BuildLemmas
+pub mod LaunchLemmas
+pub mod LoadLemmas
+pub mod MakeLemmas
+pub mod JobLemmas
+pub mod JobAnswerLemmas
+pub mod LoadAnswerLemmas
+pub mod LoadInWords
+pub mod HeadlineLemmas

@@ -1,0 +1,5 @@
+use Rattle.igvm_jobs.proofs.JobAnswerLemmas as lemma
+use Rattle.igvm_jobs.proofs.laws.print_answers.Goals as goal
+
+pub returns : goal.returns
+returns g c = lemma.print_answers g.S.Shelf g.O.Sink g.E.Sink g.L.Launch
