@@ -1,9 +1,10 @@
 #!/usr/bin/env -S python3 -B
-"""Writes the example images, their listings and the files that the lists name, and prints the digests of each.
+"""Writes the example images, their listings, the files that the lists name and the ELF file, and prints the digests.
 
     make_images.py [FOLDER]      into this script's own folder where none is named
 
-What the images are is declared here; image.py spells them. The lists boot.json and sparse.json were written by hand.
+What the images are is declared here; image.py spells them. The lists, the host descriptions and firmware_vmsa.json were
+written by hand.
 """
 import os
 import struct
@@ -13,6 +14,7 @@ from image import CPUID, CPUID_XF, NATIVE, PAGE, SECRETS, SNP, TDX, Image
 
 ALL = SNP | TDX | NATIVE
 BOOT_PAGES = 9
+DATA_AT, CODE_AT, RESET_AT = 0x100000, 0xFFFFE000, 0xFFFFFFF0      # of the firmware, in guest memory
 
 
 def pattern(seed, size):
@@ -115,8 +117,61 @@ def sparse():
     return image
 
 
-IMAGES = {"one_page": one_page, "guest": guest, "boot": boot, "sparse": sparse}
-LIST_FILES = {"boot.pages": boot_pages, "boot.vmsa": boot_vmsa, "sparse.pages": sparse_pages}
+def firmware_data():
+    """The first bytes of the firmware's data; zeros follow in memory."""
+    return pattern(10, 0x600)
+
+
+def firmware_code():
+    """Two pages of code that end at 4 GB, where a processor starts."""
+    return pattern(11, 2 * PAGE)
+
+
+def firmware_elf():
+    """An ELF file of two segments: data with zeros behind them, and code. docs/ELF.md has the fields."""
+    segments = [(DATA_AT, firmware_data(), 0x2800), (CODE_AT, firmware_code(), 2 * PAGE)]
+    start = 64 + 56 * len(segments)
+    headers = struct.pack("<4s5B7x2HI3QI6H", b"\x7fELF", 2, 1, 1, 0, 0, 2, 62, 1, RESET_AT, 64, 0, 0,
+                          64, 56, len(segments), 0, 0, 0)
+    contents = b""
+    for gpa, held, size in segments:
+        headers += struct.pack("<2I6Q", 1, 7, start + len(contents), gpa, gpa, len(held), size, PAGE)
+        contents += held
+    return headers + contents
+
+
+def firmware_vmsa():
+    """The registers behind a reset, as firmware_vmsa.json has them: CS, RIP, and what SEV-SNP wants in EFER."""
+    page = bytearray(PAGE)
+    struct.pack_into("<2HIQ", page, 0x010, 0xF000, 0x09B, 0xFFFF, 0xFFFF0000)
+    struct.pack_into("<Q", page, 0x0D0, 0x1000)
+    struct.pack_into("<Q", page, 0x178, 0xFFF0)
+    struct.pack_into("<Q", page, 0x3B0, 1)
+    return bytes(page)
+
+
+def firmware():
+    """Firmware for SEV-SNP and TDX: what firmware.json says, and the pages of firmware.elf."""
+    image = Image()
+    image.platform(SNP)
+    image.platform(TDX)
+    image.policy(SNP, 0x30000)
+    image.required(SNP | TDX, DATA_AT, 3 * PAGE)
+    image.page(SNP, 0x9E000, kind=SECRETS)
+    image.page(SNP, 0x9F000, kind=CPUID)
+    image.context(SNP, 0xFFFFFFFFF000, 0, firmware_vmsa())
+    image.page(SNP | TDX, DATA_AT, firmware_data().ljust(PAGE, b"\0"))
+    image.page(SNP | TDX, DATA_AT + PAGE)
+    image.page(SNP | TDX, DATA_AT + 2 * PAGE)
+    code = firmware_code()
+    image.page(SNP | TDX, CODE_AT, code[:PAGE])
+    image.page(SNP | TDX, CODE_AT + PAGE, code[PAGE:])
+    return image
+
+
+IMAGES = {"one_page": one_page, "guest": guest, "boot": boot, "sparse": sparse, "firmware": firmware}
+OTHER_FILES = {"boot.pages": boot_pages, "boot.vmsa": boot_vmsa, "sparse.pages": sparse_pages,
+               "firmware.elf": firmware_elf, "firmware.vmsa": firmware_vmsa}
 
 
 def write(folder, name, content):
@@ -135,7 +190,7 @@ def main():
         print(f"{name}.igvm snp --native-zero", image.snp(native_zero=True).hex())
         if image.platforms > 1:
             print(f"{name}.igvm tdx", image.tdx().hex())
-    for name, make in LIST_FILES.items():
+    for name, make in OTHER_FILES.items():
         write(folder, name, make())
 
 
