@@ -20,11 +20,11 @@ import tempfile
 import reader
 import list_cases
 from answers import OPTION, answer, words
-from components import FILE_MOST, built
-from list_cases import HUGE
+from components import built
 from lists import DIRECTIVES
+from named_files import lay_out, read, write
 from program import ROOT, Program, is_built, shared_memory
-from random_lists import FILES, FormMaker, ListMaker, TextMaker
+from random_lists import FormMaker, ListMaker, TextMaker
 from records import FIXED_SIZES, LARGE, fixed, platforms
 
 LISTS, FORMS, TEXTS, SEED = 400, 300, 200, 20240229
@@ -69,40 +69,6 @@ def wrong_versions():
 
 
 # The runs
-
-class Huge:
-    """What is known of a file that is too long, which Python needn't read."""
-
-    def __len__(self):
-        return FILE_MOST + 1
-
-
-def read(name):
-    """The bytes of a file in the folder, or None."""
-    if name == HUGE:
-        return Huge()
-    try:
-        with open(name, "rb") as file:
-            return file.read()
-    except (OSError, ValueError):
-        return None
-
-
-def write(name, content):
-    with open(name, "wb") as file:
-        file.write(content)
-
-
-def lay_out():
-    """The files that the lists name."""
-    for name, content in FILES.items():
-        write(name, content)
-    for index in range(8):
-        write(f"byte {index}", bytes([index + 1]))
-    write(HUGE, b"")
-    os.truncate(HUGE, FILE_MOST + 1)
-    os.mkdir("folder")
-
 
 class Bench:
     """Builds lists in the working folder, each to a file that wasn't there."""

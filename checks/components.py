@@ -135,7 +135,7 @@ def plain(entry):
 
 
 def check_rules(parts):
-    """The rules on the components, each behind those before it."""
+    """The rules on the components, each behind those before it; how many pages they name together."""
     before = reader.Before()
     for part in parts:
         header = Header(0, part.type, spelled(part, 0)[8:])
@@ -146,6 +146,7 @@ def check_rules(parts):
         before.add(header)
     if not before.masks:
         raise Ended(7, "json refused: platforms 0: no platform")
+    return before.pages
 
 
 def layout(version, parts):
@@ -168,21 +169,31 @@ def layout(version, parts):
     return front + struct.pack("<I", checksum) + machine + section + b"".join(contents)
 
 
-def image_of_list(text, read):
+def checked_list(text, read):
+    """The version and the components of a list that keeps the rules, and how many pages they name; else an answer."""
     if len(text) > LIST_MOST:
         raise Ended(8, "limit: list")
     source, expansion = read_list(text), Expansion(read)
     parts = [part for entry in source.entries for part in expansion.components(entry)]
-    check_rules(parts)
-    return layout(source.version, parts)
+    return source.version, parts, check_rules(parts)
 
 
-def built(text, read):
-    """(status, output, error, image) of building a list of this text; the image is None where there is none."""
+def image_of_list(text, read):
+    version, parts, _ = checked_list(text, read)
+    return layout(version, parts)
+
+
+def answered(make, *given):
+    """(status, output, error, file) of a job that makes a file of what is given; the file is None where it doesn't."""
     try:
-        image = image_of_list(text, read)
+        made = make(*given)
     except Refused as refused:
         return 7, "", refused.error, None
     except Ended as ended:
         return ended.status, "", ended.error, None
-    return 0, f"built {len(image)} bytes\n", "", image
+    return 0, f"built {len(made)} bytes\n", "", made
+
+
+def built(text, read):
+    """(status, output, error, image) of building a list of this text; the image is None where there is none."""
+    return answered(image_of_list, text, read)

@@ -7,7 +7,7 @@ root=$(dirname -- "$(dirname -- "$(readlink -f -- "${BASH_SOURCE[0]}")")")
 page=$root/docs/DIGESTS.md
 program=${IGVM:-$root/crates/igvm_tool/out/igvm_tool}
 [[ $program == /* ]] || program=$PWD/$program
-for tool in xxd sha384sum awk seq; do
+for tool in xxd sha256sum sha384sum awk seq; do
     if ! command -v "$tool" >/dev/null 2>&1; then
         echo "digests page: skipped, $tool is missing"
         exit 77

@@ -5,10 +5,11 @@ The images of examples/ and their listings are those that make_images.py writes.
 listings, and the digests that examples/README.md has for each image. The plain builder makes the image NAME.igvm of
 each list NAME.json, and boot.json in the other version of the format makes an image that only lies 8 bytes further.
 The plain loader gives what the README shows of loading boot.igvm on the host of boot_host.json, whose values then
-stand in the pages of its areas. Then the program ($IGVM, or crates/igvm_tool/out/igvm_tool) is run by all commands over
-each image, and compared with the plain reader; so it is over further images that are named. It builds the lists, and
-loads boot.igvm with a pages file, too, and the commands that examples/README.md shows print what stands there. Ends
-with 77 where the program isn't built.
+stand in the pages of its areas. The plain readers of VMSA texts and ELF files make firmware.vmsa and firmware.igvm.
+Then the program ($IGVM, or crates/igvm_tool/out/igvm_tool) is run by all commands over
+each image, and compared with the plain reader; so it is over further images that are named. It builds the lists,
+boot.json with an ELF file, too, prints boot.vmsa and builds it again, and loads boot.igvm with a pages file, and the
+commands that examples/README.md shows print what stands there. Ends with 77 where the program isn't built.
 """
 import json
 import os
@@ -16,9 +17,12 @@ import subprocess
 import sys
 import tempfile
 
+import elves
 import reader
+import vmsas
 from answers import COMMANDS, OPTION, answer, words
 from components import built
+from elf_cases import THREE
 from listing import listing
 from loader import load
 from program import ROOT, Program, is_built
@@ -185,6 +189,42 @@ def other_version_faults():
             yield f"boot.json in version 2: the program answers {got}, expected {tuple(want)} and the same image"
 
 
+def vmsa_faults():
+    """Where the plain reader of texts makes another page of what the plain writer says of boot.vmsa."""
+    page = read(EXAMPLES, "boot.vmsa")
+    if vmsas.page_of(vmsas.text_of(page).encode()) != page.ljust(vmsas.SIZE, b"\0"):
+        yield f"boot.vmsa: the plain reader makes another page of {vmsas.text_of(page)}"
+
+
+def firmware_faults():
+    """Where the plain readers make another page of firmware_vmsa.json, or another image of the firmware's list and ELF file."""
+    if vmsas.page_of(read(EXAMPLES, "firmware_vmsa.json")) != read(EXAMPLES, "firmware.vmsa"):
+        yield "firmware_vmsa.json: the plain reader makes another page than firmware.vmsa"
+    *_, image = elves.built(read(EXAMPLES, "firmware.json"), from_root, read(EXAMPLES, "firmware.elf"), 3)
+    if image != read(EXAMPLES, "firmware.igvm"):
+        yield "firmware.json: the plain builder makes another image than firmware.igvm"
+
+
+def further_faults():
+    """Where the program makes another text or page of boot.vmsa, or another image of boot.json and an ELF file."""
+    page, text = (read(EXAMPLES, name) for name in ("boot.vmsa", "boot.json"))
+    *want, image = elves.built(text, from_root, THREE, 7)
+    with tempfile.TemporaryDirectory() as folder:
+        program = Program(folder)
+        json_path, elf, path = (os.path.join(folder, name) for name in ("json", "elf", "made"))
+        for name, content in ((json_path, vmsas.text_of(page).encode()), (elf, THREE)):
+            with open(name, "wb") as file:
+                file.write(content)
+        os.chdir(ROOT)
+        for command, answered, written in (
+                (["vmsa-print", "examples/boot.vmsa"], vmsas.printed(page), None),
+                (["vmsa-build", json_path, path], (0, "built 4096 bytes\n", ""), page.ljust(vmsas.SIZE, b"\0")),
+                (["build-elf", "examples/boot.json", elf, "7", path], tuple(want), image)):
+            got = program.run(command)
+            if got != answered or written is not None and read(path) != written:
+                yield f"{' '.join(command)}: the program answers {got}, expected {answered}, or writes another file"
+
+
 def agree_around(got, lines):
     """The lines before and behind `...` are the first and the last ones."""
     at = lines.index("...")
@@ -216,9 +256,11 @@ def main():
         faults += page_faults(name, written[name], text, table)
     for name in LISTS:
         faults += list_faults(name)
-    faults += [*version_faults(built(in_version_2(), from_root)[3]), *load_faults()]
+    faults += [*version_faults(built(in_version_2(), from_root)[3]), *load_faults(), *vmsa_faults(),
+               *firmware_faults()]
     if is_built():
-        faults += [*program_faults(paths), *shown_faults(), *other_version_faults(), *pages_file_faults()]
+        faults += [*program_faults(paths), *shown_faults(), *other_version_faults(), *pages_file_faults(),
+                   *further_faults()]
     for fault in faults:
         print(f"examples: {fault}")
     if not is_built() and not faults:

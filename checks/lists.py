@@ -21,7 +21,7 @@ class Refused(Exception):
 
     def __init__(self, where=""):
         super().__init__()
-        self.error = f"igvm: json refused{where}\n"
+        self.where, self.error = where, f"igvm: json refused{where}\n"
 
 
 # JSON, as far as it differs from Python's: what has another form is NOTHING, what is no JSON is refused

@@ -1,4 +1,4 @@
-"""The built program ($IGVM, or crates/igvm_tool/out/igvm_tool), run as a caller would."""
+"""The built program ($IGVM, or crates/igvm_tool/out/igvm_tool), run as a caller would, and its usage text."""
 import os
 import signal
 
@@ -42,3 +42,13 @@ def read_text(path):
     """What was printed. Bytes that are no UTF-8, which the program never prints, stand as escapes."""
     with open(path, encoding="utf-8", errors="backslashreplace", newline="") as file:
         return file.read()
+
+
+def usage():
+    """The usage text: the block of docs/PROGRAM.md that begins with `usage: `."""
+    with open(os.path.join(ROOT, "docs", "PROGRAM.md"), encoding="utf-8") as page:
+        lines = page.read().splitlines()
+    first = next(at for at, line in enumerate(lines) if line.strip().startswith("usage: "))
+    last = next(at for at in range(first, len(lines)) if not lines[at].strip() or lines[at].startswith("```"))
+    indent = len(lines[first]) - len(lines[first].lstrip())
+    return "".join(line[indent:] + "\n" for line in lines[first:last])

@@ -61,6 +61,9 @@ JOBS=(
     'measure examples/boot.igvm --platform tdx'
     'print examples/boot.igvm'
     'make 4 out'
+    'vmsa-build vmsa.json out'
+    'vmsa-print examples/boot.vmsa'
+    'build-elf examples/boot.json elf 7 out'
 )
 SHOWN=10        # faults that are printed
 runs=0 faults=0 wanting=0 needless=0
@@ -107,6 +110,23 @@ int posix_memalign(void **place, size_t unit, size_t size) {
 C
 }
 
+zeros() { head -c "$1" /dev/zero; }
+
+# The text of a VMSA page with each form of a key.
+vmsa_text() {
+    printf '%s' '{"rip":"0xfff0","cs":{"selector":61440,"attributes":155,"limit":65535,"base":"0xffff0000"},'
+    printf '%s' '"other":[{"at":784,"byte":18},{"at":785,"byte":15},{"at":4095,"byte":1}]}'
+}
+
+# The ELF file of docs/ELF.md, section 4: the file header, the program header and four bytes.
+elf_file() {
+    printf '\177ELF\2\1\1'; zeros 9; printf '\2\0\76\0\1'; zeros 11; printf '\100'; zeros 19
+    printf '\100\0\70\0\1'; zeros 7
+    printf '\1'; zeros 7; printf '\170'; zeros 15; printf '\376\17\20'; zeros 5; printf '\4'; zeros 7; printf '\4\20'
+    zeros 7; printf '\20'; zeros 6
+    printf '\336\255\276\357'
+}
+
 fault() {
     faults=$((faults + 1))
     [ "$faults" -gt "$SHOWN" ] || echo "refused allocation: $1"
@@ -151,7 +171,7 @@ refuse_each() {
 try_program() {
     local job
     [ -x "$program" ] || { skipped "for the program, it isn't built"; return; }
-    cd -- "$folder" && ln -s -- "$root/examples" examples || return 1
+    cd -- "$folder" && ln -s -- "$root/examples" examples && vmsa_text >vmsa.json && elf_file >elf || return 1
     if ! library | "${CC:-cc}" -shared -fPIC -O1 -o refusing.so -x c - 2>compiling; then
         skipped "for the program, no compiler makes the library"
         return

@@ -103,6 +103,93 @@ ends 0 '' 'head -c 16384 made | cmp - out >&2'
 ends 0 '' "$make link >/dev/null && [ -L link ] && cmp long made >&2"
 ends 0 '' "$make pipe >/dev/null & cat pipe | cmp - made >&2"
 ends 2 '' './igvm make 2>/dev/full'
+
+# VMSA pages: a front of one, whose zeros behind it are told by none, and its text.
+zeros() { head -c "$1" /dev/zero; }
+{ zeros 376; printf '\360\377'; } >page
+printf '{"rip":"0xfff0"}' >vmsa.json
+{ cat page; zeros 3718; } >whole
+print='./igvm vmsa-print page'
+ends 0 '' "$print | cmp - vmsa.json >&2"
+ends 0 '' './igvm vmsa-print whole | cmp - vmsa.json >&2'
+for closed in '>&-' '>/dev/full'; do
+    ends 4 "$output" "$print $closed"
+    ends 4 '' "$print $closed 2>&-"
+    ends 4 "$shelf" "./igvm vmsa-print missing $closed"
+    ends 8 'igvm: limit: vmsa' "./igvm vmsa-print boot.igvm $closed"
+done
+ends 4 "$output" "set -o pipefail; { sleep 0.2; $print; } | true"
+ends 4 "$output" "trap '' PIPE; set -o pipefail; { sleep 0.2; $print; } | true"
+ends 0 '' "$print >/dev/null 2>&- <&-"
+ends 0 '' 'cat page | ./igvm vmsa-print /dev/stdin | cmp - vmsa.json >&2'
+ends 0 '' 'timeout 10 bash -c "cat whole >pipe" & ./igvm vmsa-print pipe | cmp - vmsa.json >&2'
+ends 0 '' "[ \"\$(./igvm vmsa-print /dev/null)\" = '{}' ]"
+ends 8 'igvm: limit: vmsa' './igvm vmsa-print /dev/zero'
+ends 2 '' './igvm vmsa-print 2>/dev/full'
+vmsa='./igvm vmsa-build vmsa.json'
+ends 0 '' "$vmsa out >/dev/null && cmp out whole >&2"
+for closed in '>&-' '>/dev/full'; do
+    ends 4 "$output" "rm -f out; $vmsa out $closed"
+    ends 0 '' 'cmp out whole >&2'
+    ends 7 'igvm: json refused' "./igvm vmsa-build broken out $closed"
+    ends 7 'igvm: json refused: vmsa 0' "./igvm vmsa-build examples/boot.json out $closed"
+    ends 0 '' 'cmp out whole >&2'
+done
+ends 4 "$output" "rm -f out; set -o pipefail; { sleep 0.2; $vmsa out; } | true"
+ends 0 '' "cmp out whole >&2 && $vmsa out >/dev/null 2>&-"
+ends 4 "$shelf" "$vmsa /dev/full"
+ends 4 "$shelf" "$vmsa examples >/dev/full"
+ends 4 '' "$vmsa /dev/full 2>/dev/full"
+ends 4 "$shelf" "trap '' XFSZ; ulimit -f 2; $vmsa out"
+ends 0 '' 'head -c 2048 whole | cmp - out >&2'
+ends 0 '' "$vmsa link >/dev/null && [ -L link ] && cmp long whole >&2"
+ends 0 '' "cp whole both; echo 'built 4096 bytes' >>both; $vmsa /dev/stdout | cmp - both >&2"
+ends 0 '' "$vmsa pipe >/dev/null & cat pipe | cmp - whole >&2"
+ends 0 '' 'cat vmsa.json | ./igvm vmsa-build /dev/stdin out >/dev/null && cmp out whole >&2'
+ends 0 '' 'cp vmsa.json self; ./igvm vmsa-build self self >/dev/null && cmp self whole >&2'
+ends 2 '' './igvm vmsa-build 2>/dev/full'
+
+# The ELF file of docs/ELF.md, section 4, behind a list: the file header, the program header and four bytes.
+{
+    printf '\177ELF\2\1\1'; zeros 9; printf '\2\0\76\0\1'; zeros 11; printf '\100'; zeros 19
+    printf '\100\0\70\0\1'; zeros 7
+    printf '\1'; zeros 7; printf '\170'; zeros 15; printf '\376\17\20'; zeros 5; printf '\4'; zeros 7; printf '\4\20'
+    zeros 7; printf '\20'; zeros 6
+    printf '\336\255\276\357'
+} >elf
+echo '{"platforms":[{"kind":"snp","mask":1}],"directives":[]}' >list
+both='./igvm build-elf list elf 1'
+ends 0 '' "$both made >/dev/null && ./igvm print made | head -n 1 | grep -q ' total 8336 headers 4' >&2"
+for closed in '>&-' '>/dev/full'; do
+    ends 4 "$output" "rm -f out; $both out $closed"
+    ends 0 '' 'cmp out made >&2'
+    ends 7 'igvm: json refused' "./igvm build-elf broken elf 1 out $closed"
+    ends 1 'igvm: elf refused at 0: magic' "./igvm build-elf list boot.igvm 1 out $closed"
+    ends 4 "$shelf" "./igvm build-elf list missing 1 out $closed"
+    ends 0 '' 'cmp out made >&2'
+done
+ends 4 "$output" "rm -f out; set -o pipefail; { sleep 0.2; $both out; } | true"
+ends 0 '' "cmp out made >&2 && $both out >/dev/null 2>&-"
+ends 4 "$shelf" "$both /dev/full"
+ends 4 "$shelf" "$both examples >/dev/full"
+ends 4 '' "$both /dev/full 2>/dev/full"
+ends 4 "$shelf" "trap '' XFSZ; ulimit -f 4; $both out"
+ends 0 '' 'head -c 4096 made | cmp - out >&2'
+ends 0 '' "$both link >/dev/null && [ -L link ] && cmp long made >&2"
+ends 0 '' "cp made whole; echo 'built 8336 bytes' >>whole; $both /dev/stdout | cmp - whole >&2"
+ends 0 '' "$both pipe >/dev/null & cat pipe | cmp - made >&2"
+ends 0 '' 'cat list | ./igvm build-elf /dev/stdin elf 1 out >/dev/null && cmp out made >&2'
+ends 0 '' 'cat elf | ./igvm build-elf list /dev/stdin 1 out >/dev/null && cmp out made >&2'
+ends 0 '' 'timeout 10 bash -c "cat elf >pipe" & ./igvm build-elf list pipe 1 out >/dev/null && cmp out made >&2'
+# ELF is opened only where LIST is right: else the program would wait for a writer.
+ends 7 'igvm: json refused' './igvm build-elf broken pipe 1 out'
+ends 7 'igvm: json refused: top 0' './igvm build-elf vmsa.json pipe 1 out'
+ends 4 "$shelf" './igvm build-elf missing pipe 1 out'
+ends 8 'igvm: limit: elf' './igvm build-elf list /dev/zero 1 out'
+ends 0 '' 'cmp out made >&2'
+ends 0 '' 'cp list self; ./igvm build-elf self elf 1 self >/dev/null && cmp self made >&2'
+ends 0 '' 'cp elf self; ./igvm build-elf list self 1 self >/dev/null && cmp self made >&2'
+ends 2 '' './igvm build-elf 2>/dev/full'
 # LIST itself, and a file that it names, may be written.
 ends 0 '' "cp examples/boot.json self; ./igvm build self self >/dev/null && cmp self boot.igvm >&2"
 ends 0 '' "$build examples/boot.pages >/dev/null && cmp examples/boot.pages boot.igvm >&2"

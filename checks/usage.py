@@ -2,22 +2,29 @@
 """The program takes the words that docs/PROGRAM.md lists, and no others.
 
 Each row of words is run in a folder where a small image with three platforms lies under several names, a list of one
-platform under several others, and a host description under others again. What `make` writes is maker.py's image. The
-usage text is read from the page; it has a line for each of FORMS. Ends with 77 where the program isn't built.
+platform under several others, and a host description, a VMSA page, its text and an ELF file under others again. What
+`make` writes is maker.py's image. The usage text is read from the page; it has a line for each of FORMS. Ends with 77
+where the program isn't built.
 """
 import os
 import sys
 import tempfile
 
+import elves
 import images
 import reader
+import vmsas
 from answers import answer
+from elf_cases import THREE
 from loader import load
 from maker import made
-from program import ROOT, Program, is_built
+from program import ROOT, Program, is_built, usage
+from random_lists import TOP
+from vmsa_cases import RESET, RESET_TEXT
 
 FORMS = ("build LIST OUT", "print FILE", "measure FILE --platform P [--native-zero]",
-         "load FILE HOST --platform P [--native-zero] [--image OUT]", "make N OUT")
+         "load FILE HOST --platform P [--native-zero] [--image OUT]", "make N OUT", "vmsa-build JSON OUT",
+         "vmsa-print FILE", "build-elf LIST ELF MASK OUT")
 PLATFORMS = ((1, 0), (2, 3), (4, 2))           # mask and platform type: native, tdx, snp
 IMAGE = images.image_of(images.row([*(images.platform(*one) for one in PLATFORMS), images.page(0x1000, mask=6)]))
 NAMES = ("image", "-x", "measure", "print", "snp")      # the image's, all the same
@@ -55,6 +62,23 @@ LOADING = (
 MAKING = (("make 4 out", 4, "out"), ("make 1 made", 1, "made"), ("make 12 ./-made", 12, "-made"),
           ("make 4 make", 4, "make"), ("make 10 4", 10, "4"), ("make 3 snp", 3, "snp"), ("make 2 list", 2, "list"),
           ("make 5 host", 5, "host"), ("make 6 image", 6, "image"))
+TEXT = RESET_TEXT.encode()
+TEXT_NAMES = ("json", "-json", "vmsa-build")            # the text's, all the same
+PAGE_NAMES = ("page", "-page", "vmsa-print")            # the page's, which is that of the text
+ELF_NAMES = ("elf", "-elf", "build-elf", "1", "0")      # the ELF file's
+# words that print the page, and others that print what is no page
+PRINTING = (("vmsa-print page", RESET), ("vmsa-print ./-page", RESET), ("vmsa-print vmsa-print", RESET),
+            ("vmsa-print json", TEXT), ("vmsa-print image", IMAGE), ("vmsa-print elf", THREE))
+# words that build the page, and the file that they write; the last one writes over JSON
+PAGE_BUILDING = (("vmsa-build json out", "out"), ("vmsa-build vmsa-build made", "made"),
+                 ("vmsa-build ./-json ./-out", "-out"), ("vmsa-build json page", "page"),
+                 ("vmsa-build json vmsa-build", "vmsa-build"), ("vmsa-build json json", "json"))
+# words that build the list with the ELF file, the mask, and the file that they write; the last ones write over ELF and
+# LIST
+ELF_BUILDING = (*((f"build-elf build elf {mask} out", mask, "out") for mask in (0, 1, 2, 9, 10, 4294967290, TOP)),
+                ("build-elf build build-elf 1 made", 1, "made"), ("build-elf ./-list ./-elf 1 ./-out", 1, "-out"),
+                ("build-elf build 1 1 2", 1, "2"), ("build-elf build 0 1 1", 1, "1"), ("build-elf build 0 0 0", 0, "0"),
+                ("build-elf build elf 7 elf", 7, "elf"), ("build-elf build build-elf 1 build", 1, "build"))
 # words that mean a job, and the command that it is
 TAKEN = (
     ("print image", "print"), ("measure image --platform snp", "measure snp"),
@@ -149,6 +173,40 @@ REFUSED = (
     "make 4 --image new", "make 4 new --native-zero", "make 4 --native-zero", "make --native-zero 4 new",
     "make 4 new --platform snp", "make 4 --platform snp", "make 4 new --image pages", "make 4 new --native-zero new",
     "Make 4 new", "MAKE 4 new", "mak 4 new", "makes 4 new", "--make 4 new", "4 make new", "4 new make", "new 4 make",
+    "vmsa-build", "vmsa-build json", "vmsa-build json new new", "vmsa-build json json new", "vmsa-build -json new",
+    "vmsa-build json -new", "vmsa-build - new", "vmsa-build json -", "vmsa-build -- json new", "vmsa-build json --",
+    "vmsa-build json -- new", "-- vmsa-build json new", "vmsa-build --help", "vmsa-build json --help",
+    "vmsa-build json --image new", "vmsa-build json new --image new", "vmsa-build json new --platform snp",
+    "vmsa-build json new --native-zero", "vmsa-build --json json new", "Vmsa-build json new", "VMSA-BUILD json new",
+    "vmsa_build json new", "vmsabuild json new", "vmsa build json new", "build-vmsa json new", "vmsa-buil json new",
+    "vmsa-builds json new", "--vmsa-build json new", "vmsa json new", "json vmsa-build new", "json new vmsa-build",
+    "build vmsa json new", "vmsa-print json new", "vmsa-build page",
+    "vmsa-print", "vmsa-print page page", "vmsa-print page new", "vmsa-print -page", "vmsa-print -", "vmsa-print --",
+    "vmsa-print -- page", "vmsa-print page --", "-- vmsa-print page", "vmsa-print --help", "vmsa-print page --help",
+    "vmsa-print page --platform snp", "vmsa-print page --native-zero", "vmsa-print page --image new",
+    "vmsa-print --image new page", "Vmsa-print page", "VMSA-PRINT page", "vmsa_print page", "vmsaprint page",
+    "vmsa print page", "print-vmsa page", "vmsa-prin page", "vmsa-prints page", "--vmsa-print page", "vmsa page",
+    "page vmsa-print", "print vmsa page",
+    "build-elf", "build-elf list", "build-elf list elf", "build-elf list elf 1", "build-elf list elf new",
+    "build-elf elf 1 new", "build-elf list 1 new", "build-elf list elf 1 new new", "build-elf list elf 1 1 new",
+    "build-elf list elf elf 1 new", "build-elf list list elf 1 new", "build-elf list elf new 1",
+    "build-elf list 1 elf new", "build-elf 1 list elf new", "build-elf list elf new new",
+    *(f"build-elf list elf {mask} new" for mask in (
+        "00", "01", "000", "007", "+0", "+1", "-1", "-0", "0x1", "0X1", "0b1", "1.0", "1e0", "1,0", "1_0", "1a", "a1",
+        "x", "snp", "all", "4294967296", "4294967297", "8589934593", "18446744073709551616", "18446744073709551617",
+        "99999999999999999999999999", "04294967295", "\u0661", "\u0967", "--", "-")),
+    "build-elf -list elf 1 new", "build-elf list -elf 1 new", "build-elf list elf 1 -new", "build-elf - elf 1 new",
+    "build-elf list - 1 new", "build-elf list elf 1 -", "build-elf list elf 1 --", "build-elf -- list elf 1 new",
+    "build-elf list -- elf 1 new", "build-elf list elf -- 1 new", "build-elf list elf 1 -- new",
+    "build-elf list elf 1 new --", "-- build-elf list elf 1 new", "build-elf --help", "build-elf list elf 1 --help",
+    "build-elf list elf 1 --image new", "build-elf list elf 1 new --image new",
+    "build-elf list elf 1 new --native-zero", "build-elf list elf 1 new --platform snp",
+    "build-elf list elf --platform snp new", "build-elf list elf --mask 1 new", "build-elf list elf --mask=1 new",
+    "build-elf list --elf elf 1 new", "Build-elf list elf 1 new",
+    "BUILD-ELF list elf 1 new", "build_elf list elf 1 new", "buildelf list elf 1 new", "build elf list elf 1 new",
+    "elf-build list elf 1 new", "build-el list elf 1 new", "build-elfs list elf 1 new", "build-elf64 list elf 1 new",
+    "--build-elf list elf 1 new", "elf list elf 1 new", "list build-elf elf 1 new", "build list elf 1 new",
+    "build list new 1", "build-elf list new",
 )
 EMPTY = (["print", ""], ["measure", "", "--platform", "snp"], ["measure", "image", "", "snp"],
          ["measure", "image", "--platform", ""], ["", "image"], ["print image"],
@@ -170,21 +228,23 @@ EMPTY = (["print", ""], ["measure", "", "--platform", "snp"], ["measure", "image
          [b"load", b"image", b"host", b"--platform", b"snp", b"--image", b"ne\xffw"],
          ["make", "", "new"], ["make", "4", ""], ["make", "4 ", "new"], ["make", " 4", "new"], ["make 4", "new"],
          ["make", "4 new"], ["make", "4", "new", ""], ["", "make", "4", "new"],
+         ["vmsa-build", "", "new"], ["vmsa-build", "json", ""], ["vmsa-build", "json", "new", ""],
+         ["vmsa-build json", "new"], ["vmsa-build", "json new"], ["vmsa-build ", "json", "new"], ["vmsa-print", ""],
+         ["vmsa-print page"], ["vmsa-print", "page", ""], ["", "vmsa-print", "page"], [" vmsa-print", "page"],
+         ["build-elf", "", "elf", "1", "new"], ["build-elf", "list", "", "1", "new"],
+         ["build-elf", "list", "elf", "", "new"], ["build-elf", "list", "elf", "1", ""],
+         ["build-elf", "list", "elf", "1", "new", ""], ["build-elf", "list", "elf", " 1", "new"],
+         ["build-elf", "list", "elf", "1 ", "new"], ["build-elf", "list", "elf", "1\n", "new"],
+         ["build-elf", "list", "elf", "1 new"], ["build-elf", "list elf", "1", "new"],
+         ["build-elf list", "elf", "1", "new"],
+         [b"vmsa-build", b"js\xffon", b"new"], [b"vmsa-build", b"json", b"ne\xffw"], [b"vmsa-print", b"pa\xffge"],
+         [b"build-elf", b"li\xffst", b"elf", b"1", b"new"], [b"build-elf", b"list", b"e\xfflf", b"1", b"new"],
+         [b"build-elf", b"list", b"elf", b"1\xff", b"new"], [b"build-elf", b"list", b"elf", b"1", b"ne\xffw"],
          [b"make", b"4", b"ne\xffw"], [b"make", b"4\xff", b"new"], [b"make", b"\xff", b"new"],
          [b"build", b"list", b"ne\xffw"], [b"build", b"li\xffst", b"new"], [b"print", b"im\xffage"],
          [b"measure", b"image", b"--platform", b"\xff"],
          [b"measure", b"image", b"--platform", b"snp", b"--native-zero\xff"])
 SHOWN = 100                         # bytes of a file that are printed
-
-
-def usage():
-    """The block of docs/PROGRAM.md that begins with `usage: `."""
-    with open(os.path.join(ROOT, "docs", "PROGRAM.md"), encoding="utf-8") as page:
-        lines = page.read().splitlines()
-    first = next(at for at, line in enumerate(lines) if line.strip().startswith("usage: "))
-    last = next(at for at in range(first, len(lines)) if not lines[at].strip() or lines[at].startswith("```"))
-    indent = len(lines[first]) - len(lines[first].lstrip())
-    return "".join(line[indent:] + "\n" for line in lines[first:last])
 
 
 def wrong_lines(text):
@@ -215,18 +275,38 @@ def rows():
     for pages in (1, 4):
         for out in (".", "missing/new", "image/new"):
             yield ["make", str(pages), out], (4, "", "igvm: outside fault: shelf\n")
+    for words in ("vmsa-build missing new", "vmsa-build . new", "vmsa-build json .", "vmsa-build json missing/new",
+                  "vmsa-print missing", "vmsa-print .", "build-elf missing elf 1 new", "build-elf . image 1 new",
+                  "build-elf list missing 1 new", "build-elf list . 1 new", "build-elf list elf 1 .",
+                  "build-elf list elf 1 missing/new"):
+        yield words.split(), (4, "", "igvm: outside fault: shelf\n")
+    for words, page in PRINTING:
+        yield words.split(), vmsas.printed(page)
     # The platform is looked up before HOST is read.
     yield ["load", "image", "missing", "--platform", "0"], (6, "", "igvm: no digest for native\n")
     yield ["build", "image", "new"], (7, "", "igvm: json refused\n")
     yield ["load", "image", "image", "--platform", "snp", "--image", "new"], (7, "", "igvm: json refused\n")
     yield ["load", "list", "host", "--platform", "snp", "--image", "new"], answer(
         "load", LIST, reader.first_fault(LIST))
+    yield ["vmsa-build", "image", "new"], (7, "", "igvm: json refused\n")
+    yield ["vmsa-build", "list", "new"], (7, "", "igvm: json refused: vmsa 0\n")
+    # LIST is judged before ELF is read.
+    for elf in ("elf", "image", "missing"):
+        yield ["build-elf", "image", elf, "1", "new"], (7, "", "igvm: json refused\n")
+        yield ["build-elf", "host", elf, "1", "new"], (7, "", "igvm: json refused: top 0\n")
+    yield ["build-elf", "list", "image", "1", "new"], (1, "", "igvm: elf refused at 0: magic\n")
+    yield ["build-elf", "list", "host", "1", "missing/new"], (1, "", "igvm: elf refused at 0: too short\n")
 
 
 def writing_rows():
     """(words, the file that they write, the answer, what is written then)."""
     for words, name in BUILDING:
         yield words, name, (0, f"built {len(BUILT)} bytes\n", ""), BUILT
+    for words, name in PAGE_BUILDING:
+        yield words, name, (0, "built 4096 bytes\n", ""), RESET
+    for words, mask, name in ELF_BUILDING:
+        *want, image = elves.built(LIST, read, THREE, mask)
+        yield words, name, tuple(want), image
     for words, wanted, native_zero, name in LOADING:
         loaded = load(IMAGE, HOST, wanted, native_zero)
         yield words, name, loaded[:3], loaded.pages
@@ -246,7 +326,8 @@ def read(name):
 def differences(folder):
     """The words that are answered otherwise, each a text, and None for the others."""
     os.chdir(folder)
-    for names, content in ((NAMES, IMAGE), (LIST_NAMES, LIST), (HOST_NAMES, HOST)):
+    for names, content in ((NAMES, IMAGE), (LIST_NAMES, LIST), (HOST_NAMES, HOST), (TEXT_NAMES, TEXT),
+                           (PAGE_NAMES, RESET), (ELF_NAMES, THREE)):
         for name in names:
             with open(name, "wb") as file:
                 file.write(content)
