@@ -8,7 +8,7 @@ use Rattle.igvm_headers.specs.declared.header.Header.TheVariants.{Policy, Area, 
 use Rattle.igvm_headers.specs.declared.page_kind.PageKind.{PageKind}
 use Rattle.igvm_headers.specs.declared.page_kind.PageKind.TheVariants.{Normal}
 use Rattle.igvm_headers.specs.declared.platform_kind.PlatformKind.{PlatformKind}
-use Rattle.igvm_headers.specs.declared.platform_kind.PlatformKind.TheVariants.{SevSnp, Tdx}
+use Rattle.igvm_headers.specs.declared.platform_kind.PlatformKind.TheVariants.{SevSnp, SevEs}
 use Rattle.host_set.specs.declared.range.PlanRange.{PlanRange}
 use Rattle.host_set.specs.Hosts.{HostValues, value_of}
 use Rattle.host_set.specs.Plans.{is_covered}
@@ -70,13 +70,19 @@ before_of areas before header = record {
 
 -- ---- the rows
 
--- TDX has normal pages alone
+-- SEV-SNP alone has pages that the host fills; all other kinds have normal pages alone
 abbrev pub type_not_here : PlatformKind → PageKind → Bool
-type_not_here Tdx Normal = false
-type_not_here Tdx _ = true
-type_not_here _ kind = false
+type_not_here SevSnp kind = false
+type_not_here _ Normal = false
+type_not_here _ kind = true
 
--- the platform is SEV-SNP, which has contexts and ID blocks
+-- the state of a virtual processor is part of the launch on SEV-SNP and SEV-ES
+abbrev pub has_contexts : PlatformKind → Bool
+has_contexts SevSnp = true
+has_contexts SevEs = true
+has_contexts _ = false
+
+-- the platform is SEV-SNP, which alone has ID blocks
 abbrev pub is_snp : PlatformKind → Bool
 is_snp SevSnp = true
 is_snp _ = false
@@ -107,7 +113,7 @@ why_of s before (Insert gpa mask area) =
     option_or (then_some before.gone AreaGone)
     (pages_why s.plan before.shares before.pages gpa (placed_pages s.areas (Insert gpa mask area)))
 why_of s before (Context gpa mask offset vp) =
-    option_or (then_some (not (is_snp s.kind)) ContextNotHere)
+    option_or (then_some (not (has_contexts s.kind)) ContextNotHere)
     (then_some before.context ContextRepeated)
 why_of s before (Required gpa mask bytes flags) = then_some (is_outside s.plan gpa bytes) Outside
 why_of s before (ErrorRange gpa mask bytes) = then_some (is_outside s.plan gpa bytes) Outside

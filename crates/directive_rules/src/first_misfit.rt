@@ -1,5 +1,5 @@
 //! Whether an image fits a host, and what doesn't.
-ghost use Rattle.std.specs.Prelude.{◌≡◌, ◌⊎◌, ◌<◌, ℕ, List, true, None, OnOk, IfOk, IfErr};
+ghost use Rattle.std.specs.Prelude.{◌≡◌, ◌<◌, ℕ, List, true, None, OnOk, IfOk, IfErr};
 ghost use Rattle.std.specs.Ordering.{nat_cmp};
 ghost use Rattle.std.specs.BTreeSet.{contains, btree_set_len};
 ghost use Rattle.igvm_image.specs.Areas.{areas_of};
@@ -31,7 +31,6 @@ pub fn check(
     plan: &MemoryPlan,
     host: &HostSet,
 ) -> Result<Checked, CheckRefusal>
-    requires { (platform.kind ≡ PlatformKind.SevSnp) ⊎ (platform.kind ≡ PlatformKind.Tdx) }
     ensures fits { OnOk result (first_misfit view.now platform plan.now host.now ≡ None) }
     ensures refused { IfErr result
         (IsRefusalBy (first_misfit view.now platform plan.now host.now)) }

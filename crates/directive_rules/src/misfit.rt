@@ -15,9 +15,9 @@ pub enum Why {
     Outside,
     /// An earlier header places one of its pages.
     Repeated,
-    /// TDX has no pages of this type.
+    /// SEV-SNP alone has pages of this type.
     TypeNotHere,
-    /// Contexts are for SEV-SNP alone.
+    /// Contexts are for SEV-SNP and SEV-ES alone.
     ContextNotHere,
     /// An earlier context is that of the same virtual processor.
     ContextRepeated,

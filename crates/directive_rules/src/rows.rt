@@ -4,7 +4,7 @@ ghost use Rattle.std.specs.Bool.{then_some};
 ghost use Rattle.host_set.specs.Hosts.{value_of};
 ghost use Rattle.igvm_image.specs.Areas.{areas_of, area_size};
 ghost use Rattle.igvm_image.specs.Headers.{headers_of};
-ghost use Rattle.directive_rules.specs.MisfitRows.{setting, type_not_here, is_snp, is_outside, pages_why, why_of};
+ghost use Rattle.directive_rules.specs.MisfitRows.{setting, type_not_here, has_contexts, is_snp, is_outside, pages_why, why_of};
 ghost use Rattle.directive_rules.specs.EarlierHeaders.{before_in, shares_in};
 
 use crate::earlier_headers::{EarlierHeaders, MOST_AREA_BYTES, MOST_PAGES};
@@ -56,7 +56,7 @@ impl EarlierHeaders {
                 .contains(&area)
                 .then_some(Why::AreaGone)
                 .or(self.pages_why(plan, gpa, view.placed_pages(header))),
-            Header::Context { vp, .. } => (!is_snp(kind))
+            Header::Context { vp, .. } => (!has_contexts(kind))
                 .then_some(Why::ContextNotHere)
                 .or(self.vps.contains(&vp).then_some(Why::ContextRepeated)),
             Header::Required { gpa, bytes, .. } => outside_why(plan, gpa, bytes),
@@ -101,18 +101,27 @@ fn outside_why(plan: &MemoryPlan, gpa: u64, bytes: u32) -> Option<Why>
     (!plan.covers(gpa, u64::from(bytes))).then_some(Why::Outside)
 }
 
-/// TDX has normal pages alone.
+/// SEV-SNP alone has pages that the host fills; all other kinds have normal pages alone.
 fn type_not_here(kind: PlatformKind, page: PageKind) -> bool
     ensures { result ≡ type_not_here kind page }
 {
     match (kind, page) {
-        (PlatformKind::Tdx, PageKind::Normal) => false,
-        (PlatformKind::Tdx, _) => true,
+        (PlatformKind::SevSnp, _) | (_, PageKind::Normal) => false,
+        _ => true,
+    }
+}
+
+/// The state of a virtual processor is part of the launch on SEV-SNP and SEV-ES.
+fn has_contexts(kind: PlatformKind) -> bool
+    ensures { result ≡ has_contexts kind }
+{
+    match kind {
+        PlatformKind::SevSnp | PlatformKind::SevEs => true,
         _ => false,
     }
 }
 
-/// The platform is SEV-SNP, which has contexts and ID blocks.
+/// The platform is SEV-SNP, which alone has ID blocks.
 fn is_snp(kind: PlatformKind) -> bool
     ensures { result ≡ is_snp kind }
 {

@@ -1,6 +1,4 @@
 //! A host, and what it answers for made images.
-ghost use Rattle.std.specs.Prelude.{◌≡◌, ◌⊎◌};
-
 use super::images::image;
 use crate::{CheckRefusal, Checked, Why, check};
 use host_set::{HostSet, MemoryPlan, PlanRange};
@@ -41,50 +39,44 @@ impl Host {
 
     /// What it answers for these headers, by the platform of SEV-SNP under mask 1.
     pub(crate) fn on_snp(&self, rt: &impl Abort, headers: &[u8]) -> Result<Answer, Fail> {
-        let platform = Platform {
-            number: 0,
-            mask: 1,
-            kind: PlatformKind::SevSnp,
-            highest_vtl: 0,
-            version: 1,
-            shared_gpa: 0,
-        };
-        self.answer(rt, headers, platform)
+        self.answer(rt, headers, first(PlatformKind::SevSnp))
     }
 
     /// What it answers for these headers, by the platform of TDX under mask 2.
     pub(crate) fn on_tdx(&self, rt: &impl Abort, headers: &[u8]) -> Result<Answer, Fail> {
-        let platform = Platform {
-            number: 1,
-            mask: 2,
-            kind: PlatformKind::Tdx,
-            highest_vtl: 0,
-            version: 1,
-            shared_gpa: 0,
-        };
-        self.answer(rt, headers, platform)
+        self.answer(rt, headers, second(PlatformKind::Tdx))
     }
 
     /// The first header that doesn't fit by the platform of SEV-SNP, and why.
     pub(crate) fn snp_misfit(&self, rt: &impl Abort, headers: &[u8]) -> Result<Misfit, Fail> {
-        match self.on_snp(rt, headers) {
-            Ok(answer) => Ok(answer.err()),
-            Err(fail) => Err(fail),
-        }
+        self.misfit(rt, headers, first(PlatformKind::SevSnp))
     }
 
     /// The first header that doesn't fit by the platform of TDX, and why.
     pub(crate) fn tdx_misfit(&self, rt: &impl Abort, headers: &[u8]) -> Result<Misfit, Fail> {
-        match self.on_tdx(rt, headers) {
+        self.misfit(rt, headers, second(PlatformKind::Tdx))
+    }
+
+    /// The first header that doesn't fit by the platform of SEV-ES under mask 1, and why.
+    pub(crate) fn sev_es_misfit(&self, rt: &impl Abort, headers: &[u8]) -> Result<Misfit, Fail> {
+        self.misfit(rt, headers, first(PlatformKind::SevEs))
+    }
+
+    /// The first header that doesn't fit by the platform of SEV under mask 2, and why.
+    pub(crate) fn sev_misfit(&self, rt: &impl Abort, headers: &[u8]) -> Result<Misfit, Fail> {
+        self.misfit(rt, headers, second(PlatformKind::Sev))
+    }
+
+    /// The first header that doesn't fit by a platform, and why.
+    fn misfit(&self, rt: &impl Abort, headers: &[u8], platform: Platform) -> Result<Misfit, Fail> {
+        match self.answer(rt, headers, platform) {
             Ok(answer) => Ok(answer.err()),
             Err(fail) => Err(fail),
         }
     }
 
     /// What it answers for these headers and a platform.
-    fn answer(&self, rt: &impl Abort, headers: &[u8], platform: Platform) -> Result<Answer, Fail>
-        requires { (platform.kind ≡ PlatformKind.SevSnp) ⊎ (platform.kind ≡ PlatformKind.Tdx) }
-    {
+    fn answer(&self, rt: &impl Abort, headers: &[u8], platform: Platform) -> Result<Answer, Fail> {
         let file = image(self.alloc, headers)?;
         assert!(rt; file.len() <= 536_870_912);
         let view = open_image(&file).expect(rt, "a file that breaks no rule");
@@ -93,5 +85,27 @@ impl Host {
             Err(CheckRefusal::Misfit(misfit)) => Ok(Err((misfit.index, misfit.why))),
             Err(CheckRefusal::Memory) => Err("no memory".into()),
         }
+    }
+}
+
+/// The first platform of an image, under mask 1.
+fn first(kind: PlatformKind) -> Platform {
+    platform(0, 1, kind)
+}
+
+/// The second one, under mask 2.
+fn second(kind: PlatformKind) -> Platform {
+    platform(1, 2, kind)
+}
+
+/// A platform by its number among the headers, its mask and its kind.
+fn platform(number: u32, mask: u32, kind: PlatformKind) -> Platform {
+    Platform {
+        number,
+        mask,
+        kind,
+        highest_vtl: 0,
+        version: 1,
+        shared_gpa: 0,
     }
 }

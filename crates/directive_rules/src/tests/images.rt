@@ -11,6 +11,11 @@ pub(crate) const PLATFORMS: &[u8] = b"\
     \x01\0\0\0\x10\0\0\0\x01\0\0\0\0\x02\x01\0\0\0\0\0\0\0\0\0\
     \x01\0\0\0\x10\0\0\0\x02\0\0\0\0\x03\x01\0\0\0\0\0\0\0\0\0";
 
+/// SEV-ES under mask 1 and SEV under mask 2.
+pub(crate) const SEV_PLATFORMS: &[u8] = b"\
+    \x01\0\0\0\x10\0\0\0\x01\0\0\0\0\x05\x01\0\0\0\0\0\0\0\0\0\
+    \x01\0\0\0\x10\0\0\0\x02\0\0\0\0\x04\x01\0\0\0\0\0\0\0\0\0";
+
 /// A policy.
 pub(crate) const POLICY: &[u8] = b"\x01\x01\0\0\x10\0\0\0\0\0\x03\0\0\0\0\0\x03\0\0\0\0\0\0\0";
 
@@ -79,6 +84,10 @@ pub(crate) const PAGE_1: &[u8] =
 /// A page at 0x1000 under mask 2.
 pub(crate) const PAGE_2: &[u8] =
     b"\x02\x03\0\0\x18\0\0\0\0\x10\0\0\0\0\0\0\x02\0\0\0\0\0\0\0\0\0\0\0\0\0\0\0";
+
+/// A page at 0x1000 that is not measured.
+pub(crate) const PAGE_UNMEASURED: &[u8] =
+    b"\x02\x03\0\0\x18\0\0\0\0\x10\0\0\0\0\0\0\x03\0\0\0\0\0\0\0\x02\0\0\0\0\0\0\0";
 
 /// A page at 0x2000.
 pub(crate) const PAGE_2000: &[u8] =

@@ -104,6 +104,44 @@ fn judges_by_the_platform(rt: HostRuntime) -> Result<(), Fail> {
 }
 
 #[test]
+fn judges_sev(rt: HostRuntime) -> Result<(), Fail> {
+    let host = Host::new(rt.alloc(), MEMORY)?;
+    let typed = Some((2, Why::TypeNotHere));
+    let context = Some((2, Why::ContextNotHere));
+    let again = Some((4, Why::ContextRepeated));
+    let outside = Some((2, Why::Outside));
+    for (first, second, third, sev_es, sev) in [
+        (SECRETS, NONE, NONE, typed, typed),
+        (CPUID, NONE, NONE, typed, typed),
+        (CPUID_XF, NONE, NONE, typed, typed),
+        (SECRETS_OUTSIDE, NONE, NONE, typed, typed),
+        (PAGE_OUTSIDE, NONE, NONE, outside, outside),
+        (PAGE, LARGE, NONE, None, None),
+        (PAGE_UNMEASURED, NONE, NONE, None, None),
+        (AREA, INSERT, PAGE, None, None),
+        (CONTEXT_0, NONE, NONE, None, context),
+        (CONTEXT_0, CONTEXT_1, CONTEXT_2, None, context),
+        (CONTEXT_0, CONTEXT_1, CONTEXT_0, again, context),
+        (CONTEXT_1, NONE, NONE, None, None),
+    ] {
+        let headers = [SEV_PLATFORMS, first, second, third].concat(rt.alloc())?;
+        assert_eq!(rt; host.sev_es_misfit(&rt, &headers)?, sev_es);
+        assert_eq!(rt; host.sev_misfit(&rt, &headers)?, sev);
+    }
+    Ok(())
+}
+
+#[test]
+fn has_no_id_blocks_on_sev(rt: HostRuntime) -> Result<(), Fail> {
+    let host = Host::new(rt.alloc(), MEMORY)?;
+    let headers = [SEV_PLATFORMS, PAGE, ID_BLOCK, ID_BLOCK_REST].concat(rt.alloc())?;
+    let want = Some((3, Why::IdBlockNotHere));
+    assert_eq!(rt; host.sev_es_misfit(&rt, &headers)?, want);
+    assert_eq!(rt; host.sev_misfit(&rt, &headers)?, want);
+    Ok(())
+}
+
+#[test]
 fn judges_id_blocks(rt: HostRuntime) -> Result<(), Fail> {
     let host = Host::new(rt.alloc(), MEMORY)?;
     let one = [PLATFORMS, PAGE, ID_BLOCK, ID_BLOCK_REST].concat(rt.alloc())?;
