@@ -1,9 +1,11 @@
 -- What each command of a launch machine needs and does (SEV-SNP Firmware ABI, SNP_LAUNCH_UPDATE and SNP_LAUNCH_FINISH;
--- Intel TDX Module Base Architecture Specification, TDH.MEM.PAGE.ADD, TDH.MR.EXTEND and TDH.MR.FINALIZE).
+-- Intel TDX Module Base Architecture Specification, TDH.MEM.PAGE.ADD, TDH.MR.EXTEND and TDH.MR.FINALIZE; AMD SEV API,
+-- LAUNCH_UPDATE_DATA and LAUNCH_UPDATE_VMSA). What is said of SEV and SEV-ES is for machines of another make than `Launch`,
+-- which are sent the same commands.
 use Rattle.std.specs.Prelude.{ℕ, zero, suc, ◌≡◌, ◌≢◌, ◌-◌, List, [], ◌∷◌, ◌++◌, map, replicate, true, false, Option, Some, None, Result, Ok, Err, IfSome, slice_get}
 use Rattle.sha2.specs.Sha512.{sha384}
 use Rattle.igvm_headers.specs.declared.platform_kind.PlatformKind.{PlatformKind}
-use Rattle.igvm_headers.specs.declared.platform_kind.PlatformKind.TheVariants.{SevSnp, Tdx}
+use Rattle.igvm_headers.specs.declared.platform_kind.PlatformKind.TheVariants.{SevSnp, Tdx, Sev, SevEs}
 use Rattle.igvm_headers.specs.declared.tag.Tag.{Tag}
 use Rattle.igvm_headers.specs.declared.tag.Tag.TheVariants as tag
 use Rattle.snp_chain.specs.Chain.{page_of}
@@ -60,19 +62,24 @@ spares_after (Extend slot) s = s
 spares_after (AddContext vp gpa page) s = record s { contexts = s.contexts - 1 }
 
 -- What is measured of an entry that is added with a tag: on SEV-SNP its page record, by the tag's page type and
--- contents; on TDX its address.
+-- contents; on TDX its address; on SEV and SEV-ES its bytes.
 abbrev pub records_of_add : PlatformKind → Tag → Entry → List LaunchRecord
 records_of_add SevSnp tag entry = Info (page_of (page_type_of tag) entry.gpa (contents_by tag entry.page)) ∷ []
 records_of_add Tdx tag entry = Bytes (page_add_record entry.gpa) ∷ []
+records_of_add Sev tag entry = Bytes entry.page ∷ []
+records_of_add SevEs tag entry = Bytes entry.page ∷ []
 records_of_add _ tag entry = []
 
 -- what is measured of an entry that is extended: a record for each of the 16 chunks of its own page
 abbrev pub records_of_extend : Entry → List LaunchRecord
 records_of_extend entry = map (λ bytes. Bytes bytes) (extend_records entry.gpa entry.page)
 
--- what is measured of a context: a page record of the VMSA type, with the digest of its bytes as contents
-abbrev pub records_of_context : ℕ → List ℕ → List LaunchRecord
-records_of_context gpa page = Info (page_of Vmsa gpa (sha384 page)) ∷ []
+-- What is measured of a context: on SEV-SNP a page record of the VMSA type, with the digest of its bytes as contents;
+-- on SEV-ES its bytes.
+abbrev pub records_of_context : PlatformKind → ℕ → List ℕ → List LaunchRecord
+records_of_context SevSnp gpa page = Info (page_of Vmsa gpa (sha384 page)) ∷ []
+records_of_context SevEs gpa page = Bytes page ∷ []
+records_of_context _ gpa page = []
 
 -- what is given by an entry that is there
 abbrev pub of_entry : (Entry → List LaunchRecord) → Option Entry → List LaunchRecord
@@ -84,7 +91,7 @@ abbrev pub records_of : Command → State → List LaunchRecord
 records_of (Place gpa page) s = []
 records_of (Add slot tag) s = of_entry (records_of_add s.kind tag) (slice_get s.entries slot)
 records_of (Extend slot) s = of_entry records_of_extend (slice_get s.entries slot)
-records_of (AddContext vp gpa page) s = records_of_context gpa page
+records_of (AddContext vp gpa page) s = records_of_context s.kind gpa page
 
 -- A machine has carried out a command: its state and spares are those after it, and behind each list of records that it
 -- held it holds those of the command.
@@ -100,14 +107,15 @@ pub record IsAsBefore (old new : State) (had has : Spares) (Held Holds : List La
   pub held : (records : List LaunchRecord) → Held records → Holds records
 
 -- A platform takes this tag for a page with these bytes. SEV-SNP takes each, but Zero only for a page of zeros; TDX
--- takes Normal and Unmeasured.
+-- takes Normal and Unmeasured; all others take Normal alone.
 abbrev pub TagFits : PlatformKind → Tag → List ℕ → Type 0
 TagFits SevSnp tag.Zero page = page ≡ replicate 4096 0
 TagFits SevSnp _ page = Unit {0}
 TagFits Tdx tag.Normal page = Unit {0}
 TagFits Tdx tag.Unmeasured page = Unit {0}
 TagFits Tdx _ page = ⊥
-TagFits _ tag page = ⊥
+TagFits _ tag.Normal page = Unit {0}
+TagFits _ _ page = ⊥
 
 -- the entry is there, was not yet added, and the platform takes this tag for it
 pub record CanAdd (slot : ℕ) (tag : Tag) (s : State) : Type 0 where

@@ -38,7 +38,7 @@ pub record Spares : Type 0 where
   pub pages : ℕ
   pub contexts : ℕ
 
--- what is measured at a time: a page's record on SEV-SNP, a row of bytes on TDX
+-- what is measured at a time: a page's record on SEV-SNP, a row of bytes on all others
 pub data LaunchRecord : Type 0 where
   Info : (page : PageRecord) → LaunchRecord
   Bytes : (bytes : List ℕ) → LaunchRecord

@@ -81,7 +81,7 @@ impl Chain {
         requires kind { kind_of self.old ≡ PlatformKind.SevSnp }
         ensures kind { kind_of self.new ≡ kind_of self.old }
         ensures held { (records : List LaunchRecord) → ChainHolds self.old records
-            → ChainHolds self.new (records ++ records_of_context gpa page.now) }
+            → ChainHolds self.new (records ++ records_of_context (kind_of self.old) gpa page.now) }
     {
         let Chain::Snp(chain) = self else {
             unreachable!()

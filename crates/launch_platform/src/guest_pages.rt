@@ -26,9 +26,13 @@ pub(crate) struct ContextRow {
     gpa: u64,
 }
 
-/// Entries and contexts, with room for a number of each. No call but `new` takes memory.
+/// The pages of a guest: entries, each with the address, the 4,096 bytes, the tag and the mark of a
+/// placed page, and contexts, each with a virtual processor's index and the address and 4,096 bytes
+/// of its save area. There is room for at most 524,288 entries and 65,536 contexts. Nothing is
+/// measured here, so a launch machine of any make may keep its pages in it. No call but `new` takes
+/// memory.
 #[derive(Drop)]
-pub(crate) struct GuestPages {
+pub struct GuestPages {
     region: GuestRegion,
     entry_slots: u32,
     context_slots: u32,
@@ -50,8 +54,9 @@ impl Model for GuestPages {
 }
 
 impl GuestPages {
-    /// Room for `pages` entries and `contexts` contexts.
-    pub(crate) fn new(alloc: Global, pages: u32, contexts: u32) -> Result<GuestPages, Memory>
+    /// No entry and no context, with room for `pages` entries, up to 524,288, and `contexts`
+    /// contexts, up to 65,536. `Memory` where there isn't memory for these.
+    pub fn new(alloc: Global, pages: u32, contexts: u32) -> Result<GuestPages, Memory>
         requires pages { pages ≤ 524288 }
         requires contexts { contexts ≤ 65536 }
         ensures { IfOk result (λ made. made ≡ record {
@@ -72,8 +77,10 @@ impl GuestPages {
         })
     }
 
-    /// One more entry, and its number.
-    pub(crate) fn place(&mut self, gpa: u64, page: PageView<'_>) -> u32
+    /// Puts one more entry behind the others, and answers its number: 0 for the first. Its address
+    /// is a multiple of 4,096, and it has no tag and isn't extended. Past the bytes of `page` its
+    /// 4,096 bytes are zeros.
+    pub fn place(&mut self, gpa: u64, page: PageView<'_>) -> u32
         requires spare { 0 < self.old.spares.pages }
         requires aligned { gpa % 4096 ≡ 0 }
         ensures slot { result ≡ length self.old.entries }
@@ -92,8 +99,8 @@ impl GuestPages {
         slot
     }
 
-    /// The entry gets this tag.
-    pub(crate) fn tag(&mut self, slot: u32, tag: Tag)
+    /// Gives the entry of this number a tag. All else stays.
+    pub fn tag(&mut self, slot: u32, tag: Tag)
         requires { slot < length self.old.entries }
         ensures { self.new ≡ record self.old {
           entries = change_at slot (tagged tag) self.old.entries;
@@ -102,8 +109,8 @@ impl GuestPages {
         self.entries[slot as usize].tag = Some(tag);
     }
 
-    /// The entry is extended.
-    pub(crate) fn extend(&mut self, slot: u32)
+    /// Marks the entry of this number as extended. All else stays.
+    pub fn extend(&mut self, slot: u32)
         requires { slot < length self.old.entries }
         ensures { self.new ≡ record self.old {
           entries = change_at slot extended self.old.entries;
@@ -112,8 +119,9 @@ impl GuestPages {
         self.entries[slot as usize].extended = true;
     }
 
-    /// One more context.
-    pub(crate) fn add_context(&mut self, vp: u16, gpa: u64, page: PageView<'_>)
+    /// Puts one more context behind the others: that of the virtual processor `vp`, with its save
+    /// area's address, which may be any. Past the bytes of `page` its 4,096 bytes are zeros.
+    pub fn add_context(&mut self, vp: u16, gpa: u64, page: PageView<'_>)
         requires { 0 < self.old.spares.contexts }
         ensures { self.new ≡ record self.old {
           contexts = self.old.contexts ++ context_of vp gpa page.entry ∷ [];
@@ -125,22 +133,22 @@ impl GuestPages {
         self.contexts.push_reserved(ContextRow { vp, gpa });
     }
 
-    /// How many entries there are.
-    pub(crate) fn entries(&self) -> u32
+    /// How many entries there are, up to 524,288.
+    pub fn entries(&self) -> u32
         ensures { result ≡ length self.now.entries }
     {
         self.entries.len() as u32
     }
 
-    /// How many contexts there are.
-    pub(crate) fn contexts(&self) -> u32
+    /// How many contexts there are, up to 65,536.
+    pub fn contexts(&self) -> u32
         ensures { result ≡ length self.now.contexts }
     {
         self.contexts.len() as u32
     }
 
-    /// Lends entry `k`.
-    pub(crate) fn entry(&self, k: u32) -> Option<EntryView<'_>>
+    /// Lends entry `k`, with its 4,096 bytes; the first is number 0. None past the last.
+    pub fn entry(&self, k: u32) -> Option<EntryView<'_>>
         ensures entry { option_map entry_in result ≡ slice_get self.now.entries k }
         ensures whole { IfSome result (λ entry. length entry.page.now ≡ 4096) }
         ensures aligned { IfSome result (λ entry. entry.gpa % 4096 ≡ 0) }
@@ -157,8 +165,8 @@ impl GuestPages {
         })
     }
 
-    /// Lends context `k`.
-    pub(crate) fn context_at(&self, k: u32) -> Option<ContextView<'_>>
+    /// Lends context `k`, with its 4,096 bytes; the first is number 0. None past the last.
+    pub fn context_at(&self, k: u32) -> Option<ContextView<'_>>
         ensures context { option_map context_in result ≡ slice_get self.now.contexts k }
         ensures whole { IfSome result (λ context. length context.page.now ≡ 4096) }
     {

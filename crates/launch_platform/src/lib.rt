@@ -2,6 +2,7 @@
 #![tactic(auto)]
 
 mod chain;
+mod command_faults;
 mod ended_launch;
 mod failing_launch;
 mod guest_pages;
@@ -13,7 +14,9 @@ mod refusals;
 mod running_launch;
 mod views;
 
+pub use command_faults::CommandFaults;
 pub use failing_launch::FailingLaunch;
+pub use guest_pages::GuestPages;
 pub use launch::Launch;
 pub use laws::{entry_changes, pages_enter, records_join, tags_fit};
 pub use mem_launch::MemLaunch;
