@@ -20,7 +20,7 @@ use Rattle.component_list.specs.Lists.{ImageParts, IsList}
 use Rattle.image_builder.specs.Layout.{layout, layout_size}
 use Rattle.image_loader.specs.FilledAreas.{filled_page}
 use Rattle.image_loader.specs.Loads.{Load, directives, load_of}
-use Rattle.image_loader.specs.PlacedPages.{PlacedPage, header_pages, is_extended, page_with, pages_behind, placed}
+use Rattle.image_loader.specs.PlacedPages.{PlacedPage, added_by, header_pages, is_extended, page_with, pages_behind, placed}
 use Rattle.elf_list.specs.GuestMemory.{IsGuestByte}
 use Rattle.elf_list.specs.ElfParts.{with_elf_pages}
 use Rattle.elf_list.proofs.ElfHeaders.{IsElfHeader, Laws, has_elf_header}
@@ -35,7 +35,8 @@ tag_at load offset = normal_tag false (is_native_zero load.platform.kind offset 
 -- the page that a header like this places
 abbrev pub only_page : Load → ℕ → ℕ → PlacedHeader → PlacedPage
 only_page load gpa offset p =
-    page_with (gpa + 4096 * 0) (data_page p.content 0) (tag_at load offset) (is_extended load.platform.kind (tag_at load offset))
+    page_with (gpa + 4096 * 0) (data_page p.content 0) (added_by load.platform.kind (tag_at load offset))
+    (is_extended load.platform.kind (tag_at load offset))
 
 one_page : (load : Load) (area_page : ℕ → ℕ → List ℕ) (p : PlacedHeader) (gpa mask offset : ℕ) → p.header ≡ Page gpa mask offset false false Normal
     → header_pages load area_page p ≡ only_page load gpa offset p ∷ []

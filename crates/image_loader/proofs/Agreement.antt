@@ -29,12 +29,12 @@ use Rattle.igvm_measure.specs.Measured.{has_bytes, bytes_if, tag_has_bytes, is_m
 use Rattle.igvm_measure.specs.Records.{contents_of, snp_record, extended, tdx_records_of}
 use Rattle.igvm_measure.specs.Digests.{snp_digest, tdx_digest, digest_by, digest_of}
 use Rattle.launch_platform.specs.Machine.{LaunchRecord, Bytes, infos, streams, launch_digest, HasDigest, started}
-use Rattle.launch_platform.specs.Commands.{new_entry, records_of_add}
+use Rattle.launch_platform.specs.Commands.{new_entry}
 use Rattle.image_loader.specs.FilledAreas.{filled_page}
 use Rattle.image_loader.specs.Loads.{Load, areas_in, directives}
-use Rattle.image_loader.specs.PlacedPages.{is_extended, page_bytes, page_at, tagged_pages, header_pages, context_in, header_contexts}
+use Rattle.image_loader.specs.PlacedPages.{added_by, is_extended, page_bytes, page_at, tagged_pages, header_pages, context_in, header_contexts}
 use Rattle.image_loader.specs.LoadCommands.{commands, records_by}
-use Rattle.image_loader.proofs.Done.{page_records, extended_records, context_records, header_records, records_behind, all_measured}
+use Rattle.image_loader.proofs.Done.{page_records, added_records, extended_records, context_records, header_records, records_behind, all_measured}
 
 -- ---- what is known of records
 
@@ -88,7 +88,7 @@ snp_one : (load : Load) (area_page : ℕ → ℕ → List ℕ) (p : PlacedHeader
 snp_one load area_page p t k snp is =
     let gpa = gpa_of p.header + 4096 * k in
     let entry = new_entry gpa (page_bytes load.host area_page p.header p.content k) in
-    ap (λ kind. infos (records_of_add SevSnp t entry ++ extended_records (is_extended kind t) entry)) snp
+    ap (λ kind. infos (added_records SevSnp (added_by kind t) entry ++ extended_records (is_extended kind t) entry)) snp
     ∙ ap (λ contents. page_of (page_type_of t) gpa contents ∷ []) (snp_bytes load area_page p t k is)
 
 snp_row : InfosJoin → (load : Load) (area_page : ℕ → ℕ → List ℕ) (p : PlacedHeader) (t : Tag)
@@ -109,7 +109,7 @@ snp_tagged join load area_page p None count snp is = refl
 snp_tagged join load area_page p (Some t) count snp is = snp_row join load area_page p t snp is (range_with_len 0 count)
 
 snp_context : (h : Header) (content : Data)
-    → infos (flat_map context_records (context_in h content)) ≡ map snp_record (snp_contexts h content)
+    → infos (flat_map (context_records SevSnp) (context_in h content)) ≡ map snp_record (snp_contexts h content)
 snp_context (Context gpa mask offset vp) content = refl
 snp_context _ content = refl
 
@@ -121,7 +121,7 @@ unfolding header_pages header_contexts snp_header_measured
 snp_header join load area_page p snp =
     let count = placed_pages (areas_in load) p.header in
     let given = λ (o : Option Tag). flat_map (page_records SevSnp) (tagged_pages load area_page p o count) in
-    let contexts = flat_map context_records (context_in p.header p.content) in
+    let contexts = flat_map (context_records SevSnp) (context_in p.header p.content) in
     let own = tag_of p.header SevSnp load.options in
     ap (λ kind. infos (given (tag_of p.header kind load.options) ++ contexts)) snp
     ∙ join (given own) contexts
@@ -166,7 +166,7 @@ tdx_one rows load area_page p t k tdx is =
     let gpa = gpa_of p.header + 4096 * k in
     let entry = new_entry gpa (page_bytes load.host area_page p.header p.content k) in
     let plain : Options = record { native_zero = false } in
-    ap (λ kind. page_add_record gpa ∷ streams (extended_records (is_extended kind t) entry)) tdx
+    ap (λ kind. streams (added_records Tdx (added_by kind t) entry ++ extended_records (is_extended kind t) entry)) tdx
     ∙ ap (λ rs. page_add_record gpa ∷ rs) (tdx_bytes rows load area_page p t gpa k is)
     ∙ ap (λ o. page_add_record gpa ∷ extended gpa (bytes_if (tag_has_bytes o) (data_page p.content k)))
     (sym is ∙ tdx_tag p.header load.options plain)
@@ -226,8 +226,8 @@ tdx_header join rows load area_page plan before p tdx fits =
     let here : why_of (setting Tdx plan load.host (areas_in load)) before p.header ≡ None =
     subst (λ kind. why_of (setting kind plan load.host (areas_in load)) before p.header ≡ None) tdx fits in
     let contexts = context_in p.header p.content in
-    ap (λ kind. streams (given (tag_of p.header kind load.options) ++ flat_map context_records contexts)) tdx
-    ∙ ap (λ cs. streams (given own ++ flat_map context_records cs))
+    ap (λ kind. streams (given (tag_of p.header kind load.options) ++ flat_map (context_records Tdx) contexts)) tdx
+    ∙ ap (λ cs. streams (given own ++ flat_map (context_records Tdx) cs))
     (tdx_context plan load before p.header p.content here)
     ∙ ap streams (append-nil (given own))
     ∙ tdx_tagged join rows load area_page p own count tdx refl (tdx_none plan load before p.header here)

@@ -4,14 +4,14 @@ use Rattle.std.specs.Prelude.{OnErr}
 use Rattle.std.proofs.lemmas.List.{append-nil}
 use Rattle.igvm_headers.specs.FaultCounts.{Rose}
 use Rattle.igvm_headers.specs.declared.tag.Tag.{Tag}
-use Rattle.launch_platform.specs.declared.launch.Launch as launches
+use Rattle.image_loader.specs.declared.carrier.Carrier as carriers
 use Rattle.launch_platform.specs.Machine.{LaunchRecord}
 use Rattle.launch_platform.specs.Commands.{Command, Place, Add, Extend, AddContext, records_of, IsStep, IsAsBefore}
 use Rattle.image_loader.specs.LoadCommands.{state_after, records_by, Did, Stopped}
 use Rattle.image_loader.proofs.CommandsJoined.{state_after-append, records_by-append}
 
 -- what is held behind more commands
-held_more : {L : Type 0} (g : launches.Ghosts L) (cs ds : List Command) (a b c : L)
+held_more : {C M : Type 0} (g : carriers.Ghosts C M) (cs ds : List Command) (a b c : M)
     → g.state b ≡ state_after cs (g.state a)
     → ((records : List LaunchRecord) → g.holds a records → g.holds b (records ++ records_by cs (g.state a)))
     → ((records : List LaunchRecord) → g.holds b records → g.holds c (records ++ records_by ds (g.state b)))
@@ -27,7 +27,7 @@ held_more g cs ds a b c state first second records held =
 
 -- ---- commands that were carried out
 
-pub did_none : {L : Type 0} (g : launches.Ghosts L) (a : L) → Did g [] 0 0 a a
+pub did_none : {C M : Type 0} (g : carriers.Ghosts C M) (a : M) → Did g [] 0 0 a a
 did_none g a = record {
   state = refl;
   held = λ records held. subst (g.holds a) (sym (append-nil records)) held;
@@ -36,7 +36,7 @@ did_none g a = record {
   counted = refl;
 }
 
-pub did_more : {L : Type 0} (g : launches.Ghosts L) (cs ds : List Command) (p q m n : ℕ) (a b c : L)
+pub did_more : {C M : Type 0} (g : carriers.Ghosts C M) (cs ds : List Command) (p q m n : ℕ) (a b c : M)
     → Did g cs p q a b → Did g ds m n b c → Did g (cs ++ ds) (p + m) (q + n) a c
 did_more g cs ds p q m n a b c first second = record {
   state = second.state ∙ ap (state_after ds) first.state ∙ sym (state_after-append cs ds (g.state a));
@@ -47,7 +47,7 @@ did_more g cs ds p q m n a b c first second = record {
 }
 
 -- one command
-did_one : {L : Type 0} (g : launches.Ghosts L) (c : Command) (p q : ℕ) (a b : L)
+did_one : {C M : Type 0} (g : carriers.Ghosts C M) (c : Command) (p q : ℕ) (a b : M)
     → IsStep c (g.state a) (g.state b) (g.spares a) (g.spares b) (g.holds a) (g.holds b)
     → (g.spares b).pages + p ≡ (g.spares a).pages → (g.spares b).contexts + q ≡ (g.spares a).contexts
     → g.faults b ≡ g.faults a → Did g (c ∷ []) p q a b
@@ -60,7 +60,7 @@ did_one g c p q a b step pages contexts counted = record {
   counted = counted;
 }
 
-pub did_place : {L : Type 0} (g : launches.Ghosts L) (gpa : ℕ) (page : List ℕ) (a b : L)
+pub did_place : {C M : Type 0} (g : carriers.Ghosts C M) (gpa : ℕ) (page : List ℕ) (a b : M)
     → IsStep (Place gpa page) (g.state a) (g.state b) (g.spares a) (g.spares b) (g.holds a) (g.holds b)
     → 0 < (g.spares a).pages → g.faults b ≡ g.faults a → Did g (Place gpa page ∷ []) 1 0 a b
 did_place g gpa page a b step some counted =
@@ -68,7 +68,7 @@ did_place g gpa page a b step some counted =
     let contexts = ap (λ s. s.contexts) step.spares in
     did_one g (Place gpa page) 1 0 a b step (omega arith) (omega arith) counted
 
-pub did_add : {L : Type 0} (g : launches.Ghosts L) (slot at : ℕ) (tag : Tag) (a b : L)
+pub did_add : {C M : Type 0} (g : carriers.Ghosts C M) (slot at : ℕ) (tag : Tag) (a b : M)
     → IsStep (Add slot tag) (g.state a) (g.state b) (g.spares a) (g.spares b) (g.holds a) (g.holds b)
     → slot ≡ at → g.faults b ≡ g.faults a → Did g (Add at tag ∷ []) 0 0 a b
 did_add g slot at tag a b step same counted =
@@ -77,7 +77,7 @@ did_add g slot at tag a b step same counted =
     let contexts = ap (λ s. s.contexts) step.spares in
     did_one g (Add slot tag) 0 0 a b step (omega arith) (omega arith) counted)
 
-pub did_extend : {L : Type 0} (g : launches.Ghosts L) (slot at : ℕ) (a b : L)
+pub did_extend : {C M : Type 0} (g : carriers.Ghosts C M) (slot at : ℕ) (a b : M)
     → IsStep (Extend slot) (g.state a) (g.state b) (g.spares a) (g.spares b) (g.holds a) (g.holds b)
     → slot ≡ at → g.faults b ≡ g.faults a → Did g (Extend at ∷ []) 0 0 a b
 did_extend g slot at a b step same counted =
@@ -86,7 +86,7 @@ did_extend g slot at a b step same counted =
     let contexts = ap (λ s. s.contexts) step.spares in
     did_one g (Extend slot) 0 0 a b step (omega arith) (omega arith) counted)
 
-pub did_add_context : {L : Type 0} (g : launches.Ghosts L) (vp gpa : ℕ) (page : List ℕ) (a b : L)
+pub did_add_context : {C M : Type 0} (g : carriers.Ghosts C M) (vp gpa : ℕ) (page : List ℕ) (a b : M)
     → IsStep (AddContext vp gpa page) (g.state a) (g.state b) (g.spares a) (g.spares b) (g.holds a) (g.holds b)
     → 0 < (g.spares a).contexts → g.faults b ≡ g.faults a → Did g (AddContext vp gpa page ∷ []) 0 1 a b
 did_add_context g vp gpa page a b step some counted =
@@ -97,7 +97,7 @@ did_add_context g vp gpa page a b step some counted =
 -- ---- commands that a fault has stopped
 
 -- behind commands that were carried out
-pub stopped_after : {L : Type 0} (g : launches.Ghosts L) (cs ds : List Command) (p q : ℕ) (a b c : L)
+pub stopped_after : {C M : Type 0} (g : carriers.Ghosts C M) (cs ds : List Command) (p q : ℕ) (a b c : M)
     → Did g cs p q a b → Stopped g ds b c → Stopped g (cs ++ ds) a c
 stopped_after g cs ds p q a b c first second = record {
   front = cs ++ second.front;
@@ -111,7 +111,7 @@ stopped_after g cs ds p q a b c first second = record {
 }
 
 -- before commands that were never begun
-pub stopped_before : {L : Type 0} (g : launches.Ghosts L) (cs ds : List Command) (a b : L)
+pub stopped_before : {C M : Type 0} (g : carriers.Ghosts C M) (cs ds : List Command) (a b : M)
     → Stopped g cs a b → Stopped g (cs ++ ds) a b
 stopped_before g cs ds a b s = record {
   front = s.front;
@@ -124,7 +124,7 @@ stopped_before g cs ds a b s = record {
 }
 
 -- at the first of them
-pub stopped_here : {L : Type 0} (g : launches.Ghosts L) (cs : List Command) (a b : L)
+pub stopped_here : {C M : Type 0} (g : carriers.Ghosts C M) (cs : List Command) (a b : M)
     → IsAsBefore (g.state a) (g.state b) (g.spares a) (g.spares b) (g.holds a) (g.holds b)
     → Rose (g.faults a) (g.faults b) → g.faults a ≤ g.faults b → Stopped g cs a b
 stopped_here g cs a b kept rose counted = record {

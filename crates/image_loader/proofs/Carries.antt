@@ -12,7 +12,7 @@ use Rattle.platform_masks.specs.Masks.{applies}
 use Rattle.host_set.specs.declared.range.PlanRange.{PlanRange}
 use Rattle.directive_rules.specs.FirstMisfit.{headers_for, misfit_after, setting_of, headers_in}
 use Rattle.igvm_image.specs.RulesInWords.{declared_bytes}
-use Rattle.launch_platform.specs.declared.launch.Launch as launches
+use Rattle.image_loader.specs.declared.carrier.Carrier as carriers
 use Rattle.launch_platform.specs.Machine as machines
 use Rattle.launch_platform.specs.Commands.{Command}
 use Rattle.param_areas.specs.AreaBytes.{Space}
@@ -55,8 +55,8 @@ passed_behind mask done p is =
 -- ---- the walk
 
 -- before the first header
-pub carries_none : {L : Type 0} (g : launches.Ghosts L) (load : Load) (left : List PlacedHeader) (space : Space)
-    (fits : FitsAPlan load) (a : L)
+pub carries_none : {C M : Type 0} (g : carriers.Ghosts C M) (load : Load) (left : List PlacedHeader) (space : Space)
+    (fits : FitsAPlan load) (a : M)
     → placed_headers load.file ≡ left → space.areas ≡ []
     → space.total ≡ sum_by declared_bytes (headers_in (directives load))
     → g.state a ≡ machines.started load.platform.kind
@@ -90,15 +90,14 @@ among P [] left x all = all.0
 among P (y ∷ done) left x all = among P done left x all.1
 
 -- a header that counts, behind those that were gone through
-pub next : {L : Type 0} (g : launches.Ghosts L) (load : Load) (all left : List PlacedHeader) (p : PlacedHeader)
-    (space : Space) (a b : L)
-    (c : Carries g load all space a b) → all ≡ p ∷ left → IsAccepted load.file → machines.HasDigest load.platform.kind
+pub next : {C M : Type 0} (g : carriers.Ghosts C M) (load : Load) (all left : List PlacedHeader) (p : PlacedHeader)
+    (space : Space) (a b : M)
+    (c : Carries g load all space a b) → all ≡ p ∷ left → IsAccepted load.file
     → applies p.header load.platform.mask ≡ true → AllByRecursion (λ q. NumbersFit q.header) (placed_headers load.file)
     → IsNext load c.plan c.done p left
-next g load all left p space a b c is accepted digest counts numbers = record {
+next g load all left p space a b c is accepted counts numbers = record {
   whole = ap (λ ps. c.done ++ ps) (sym is) ∙ c.whole;
   accepted = accepted;
-  digest = digest;
   counts = counts;
   fits = subst (λ ps. misfit_after (setting_of load.file load.platform c.plan load.host) (headers_for load.platform.mask c.done) (headers_for load.platform.mask ps) ≡ None) is c.fits;
   numbers = among (λ q. NumbersFit q.header) c.done left p
@@ -106,8 +105,8 @@ next g load all left p space a b c is accepted digest counts numbers = record {
 }
 
 -- there is room for what it places
-pub record HasRoom {L : Type 0} (g : launches.Ghosts L) (load : Load) (space : Space) (p : PlacedHeader)
-    (b : L) : Type 0 where
+pub record HasRoom {C M : Type 0} (g : carriers.Ghosts C M) (load : Load) (space : Space) (p : PlacedHeader)
+    (b : M) : Type 0 where
   pub pages : length (header_pages load (page_in space) p) ≤ (g.spares b).pages
   pub contexts : length (header_contexts p) ≤ (g.spares b).contexts
 
@@ -124,15 +123,15 @@ left_contexts : (load : Load) (left : List PlacedHeader) (p : PlacedHeader) → 
 left_contexts load left p counts = ap (flat_map header_contexts) (counted load.platform.mask p left counts)
 
 -- there is room for what the headers behind it place, besides its own
-record HasRest {L : Type 0} (g : launches.Ghosts L) (load : Load) (before left : List PlacedHeader) (space : Space)
-    (p : PlacedHeader) (b : L) : Type 0 where
+record HasRest {C M : Type 0} (g : carriers.Ghosts C M) (load : Load) (before left : List PlacedHeader) (space : Space)
+    (p : PlacedHeader) (b : M) : Type 0 where
   pages : length (header_pages load (page_in space) p)
       + length (pages_behind load (before ++ p ∷ []) (headers_for load.platform.mask left)) ≤ (g.spares b).pages
   contexts : length (header_contexts p) + length (flat_map header_contexts (headers_for load.platform.mask left)) ≤
       (g.spares b).contexts
 
-has_rest : {L : Type 0} (g : launches.Ghosts L) (load : Load) (all left : List PlacedHeader) (p : PlacedHeader)
-    (space : Space) (a b : L)
+has_rest : {C M : Type 0} (g : carriers.Ghosts C M) (load : Load) (all left : List PlacedHeader) (p : PlacedHeader)
+    (space : Space) (a b : M)
     (c : Carries g load all space a b) → all ≡ p ∷ left → applies p.header load.platform.mask ≡ true
     → header_pages load (page_in space) p ≡ header_pages load
     (filled_page load.host (headers_for load.platform.mask c.done)) p
@@ -154,8 +153,8 @@ has_rest g load all left p space a b c is counts filled =
       contexts = omega (arith, added, length-append (header_contexts p) (flat_map header_contexts (headers_for load.platform.mask left)));
     }
 
-pub has_room : {L : Type 0} (g : launches.Ghosts L) (load : Load) (all left : List PlacedHeader) (p : PlacedHeader)
-    (space : Space) (a b : L)
+pub has_room : {C M : Type 0} (g : carriers.Ghosts C M) (load : Load) (all left : List PlacedHeader) (p : PlacedHeader)
+    (space : Space) (a b : M)
     (c : Carries g load all space a b) → all ≡ p ∷ left → applies p.header load.platform.mask ≡ true
     → header_pages load (page_in space) p ≡ header_pages load
     (filled_page load.host (headers_for load.platform.mask c.done)) p
@@ -181,22 +180,22 @@ NextIsFilled =
     → header_pages load (page_in space) p ≡ header_pages load (filled_page load.host before) p
 
 -- a header that counts fits, has the bytes of the rule, and there is room for it
-pub record IsAt {L : Type 0} (g : launches.Ghosts L) (load : Load) (done : List PlacedHeader) (space : Space)
-    (p : PlacedHeader) (b : L) : Type 0 where
+pub record IsAt {C M : Type 0} (g : carriers.Ghosts C M) (load : Load) (done : List PlacedHeader) (space : Space)
+    (p : PlacedHeader) (b : M) : Type 0 where
   pub fits : Fits load space (g.state b).entries (g.state b).contexts p
   pub filled : header_pages load (page_in space) p ≡ header_pages load
       (filled_page load.host (headers_for load.platform.mask done)) p
   pub room : HasRoom g load space p b
 
-pub at_header : NextFits → NextIsFilled → {L : Type 0} (g : launches.Ghosts L) (load : Load)
-    (all left : List PlacedHeader) (p : PlacedHeader) (space : Space) (a b : L)
-    (c : Carries g load all space a b) → all ≡ p ∷ left → IsAccepted load.file → machines.HasDigest load.platform.kind
+pub at_header : NextFits → NextIsFilled → {C M : Type 0} (g : carriers.Ghosts C M) (load : Load)
+    (all left : List PlacedHeader) (p : PlacedHeader) (space : Space) (a b : M)
+    (c : Carries g load all space a b) → all ≡ p ∷ left → IsAccepted load.file
     → applies p.header load.platform.mask ≡ true → AllByRecursion (λ q. NumbersFit q.header) (placed_headers load.file)
     → IsAt g load c.done space p b
-at_header next_fits next_is_filled g load all left p space a b c is accepted digest counts numbers =
+at_header next_fits next_is_filled g load all left p space a b c is accepted counts numbers =
     let before = headers_for load.platform.mask c.done in
     let fits = next_fits load c.plan c.done left p space (g.state b)
-    (next g load all left p space a b c is accepted digest counts numbers) c.room c.areas c.machine in
+    (next g load all left p space a b c is accepted counts numbers) c.room c.areas c.machine in
     let filled = next_is_filled load before p space (g.state b) c.areas fits in
     record { fits = fits; filled = filled; room = has_room g load all left p space a b c is counts filled }
 
@@ -211,8 +210,8 @@ total_after load p space = kept p.header
     kept _ = refl
 
 -- a header that doesn't count is behind as it is
-pub carries_past : {L : Type 0} (g : launches.Ghosts L) (load : Load) (all left : List PlacedHeader)
-    (p : PlacedHeader) (space : Space) (a b : L)
+pub carries_past : {C M : Type 0} (g : carriers.Ghosts C M) (load : Load) (all left : List PlacedHeader)
+    (p : PlacedHeader) (space : Space) (a b : M)
     → Carries g load all space a b → all ≡ p ∷ left → applies p.header load.platform.mask ≡ false
     → Carries g load left space a b
 carries_past g load all left p space a b c is counts =
@@ -254,8 +253,8 @@ left_commands load slot before left p area_page counts filled =
     ∙ ap (λ qs. (pages_commands slot qs ++ context_commands (header_contexts p)) ++ commands_behind load (slot + length qs) (before ++ p ∷ []) (headers_for load.platform.mask left)) (sym filled)
 
 -- a header that counts, and was carried out
-pub carries_more : {L : Type 0} (g : launches.Ghosts L) (load : Load) (all left : List PlacedHeader)
-    (p : PlacedHeader) (space after : Space) (a b n : L)
+pub carries_more : {C M : Type 0} (g : carriers.Ghosts C M) (load : Load) (all left : List PlacedHeader)
+    (p : PlacedHeader) (space after : Space) (a b n : M)
     (c : Carries g load all space a b) → all ≡ p ∷ left → applies p.header load.platform.mask ≡ true
     → header_pages load (page_in space) p ≡ header_pages load
     (filled_page load.host (headers_for load.platform.mask c.done)) p
@@ -310,8 +309,8 @@ carries_more g load all left p space after a b n c is counts filled areas machin
     }
 
 -- a header at which a fault stopped the machine
-pub carries_stopped : {L : Type 0} (g : launches.Ghosts L) (load : Load) (all left : List PlacedHeader)
-    (p : PlacedHeader) (space : Space) (a b n : L)
+pub carries_stopped : {C M : Type 0} (g : carriers.Ghosts C M) (load : Load) (all left : List PlacedHeader)
+    (p : PlacedHeader) (space : Space) (a b n : M)
     (c : Carries g load all space a b) → all ≡ p ∷ left → applies p.header load.platform.mask ≡ true
     → header_pages load (page_in space) p ≡ header_pages load
     (filled_page load.host (headers_for load.platform.mask c.done)) p
@@ -331,7 +330,7 @@ carries_stopped g load all left p space a b n c is counts filled stopped =
     (stopped_after g c.before _ c.used_pages c.used_contexts a b n c.did (stopped_before g here later b n stopped))
 
 -- behind the last header
-pub carries_all : {L : Type 0} (g : launches.Ghosts L) (load : Load) (left : List PlacedHeader) (space : Space) (a b : L)
+pub carries_all : {C M : Type 0} (g : carriers.Ghosts C M) (load : Load) (left : List PlacedHeader) (space : Space) (a b : M)
     → Carries g load left space a b → left ≡ [] → Ran g (commands load) a b
 carries_all g load left space a b c none =
     let split : c.before ≡ commands load =

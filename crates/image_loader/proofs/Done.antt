@@ -1,5 +1,5 @@
 -- What the commands of a load leave: its pages and contexts, and what was measured of each.
-use Rattle.std.proofs.Common.{◌≡◌, ℕ, suc, ◌+◌, List, [], ◌∷◌, ◌++◌, length, map, refl, sym, ap, ◌∙◌, arith, append_assoc, append-nil, length-append, Option, Some, Bool, true, false}
+use Rattle.std.proofs.Common.{◌≡◌, ℕ, suc, ◌+◌, List, [], ◌∷◌, ◌++◌, length, map, refl, sym, ap, ◌∙◌, arith, append_assoc, append-nil, length-append, Option, Some, None, Bool, true, false}
 use Rattle.std.specs.Prelude.{slice_get}
 use Rattle.std.specs.List.{flat_map}
 use Rattle.std.proofs.lemmas.List.{length_push, length-map, map-append}
@@ -16,6 +16,11 @@ use Rattle.image_loader.proofs.CommandsJoined.{state_after-append, records_by-ap
 
 -- ---- one page
 
+-- what is measured of an entry, where it is added by a tag
+abbrev pub added_records : PlatformKind → Option Tag → Entry → List LaunchRecord
+added_records kind None entry = []
+added_records kind (Some tag) entry = records_of_add kind tag entry
+
 -- what is measured of an entry's bytes, where it is extended
 abbrev pub extended_records : Bool → Entry → List LaunchRecord
 extended_records true entry = records_of_extend entry
@@ -24,30 +29,37 @@ extended_records false entry = []
 -- what is measured of a page
 abbrev pub page_records : PlatformKind → PlacedPage → List LaunchRecord
 page_records kind q =
-    records_of_add kind q.tag (new_entry q.gpa q.page) ++ extended_records q.extended (new_entry q.gpa q.page)
+    added_records kind q.tag (new_entry q.gpa q.page) ++ extended_records q.extended (new_entry q.gpa q.page)
 
 -- the state with one more page
 abbrev pub with_page : State → PlacedPage → State
 with_page s q = record s { entries = s.entries ++ entry_of q ∷ [] }
 
 -- a page is one more entry, with its tag and mark
-page_done : (s : State) (gpa : ℕ) (page : List ℕ) (tag : Tag) (extend : Bool)
+page_done : (s : State) (gpa : ℕ) (page : List ℕ) (tag : Option Tag) (extend : Bool)
     → state_after (page_commands (length s.entries) (page_with gpa page tag extend)) s
     ≡ with_page s (page_with gpa page tag extend)
-page_done s gpa page tag false =
+page_done s gpa page None false = refl
+page_done s gpa page None true =
+    ap (λ es. record s { entries = es }) (change_at_end s.entries (new_entry gpa page) extended)
+page_done s gpa page (Some tag) false =
     ap (λ es. record s { entries = es }) (change_at_end s.entries (new_entry gpa page) (tagged tag))
-page_done s gpa page tag true =
+page_done s gpa page (Some tag) true =
     ap (λ es. record s { entries = change_at (length s.entries) extended es })
     (change_at_end s.entries (new_entry gpa page) (tagged tag))
     ∙ ap (λ es. record s { entries = es }) (change_at_end s.entries (tagged tag (new_entry gpa page)) extended)
 
 -- its bytes are measured from its own entry
-page_measured : (s : State) (gpa : ℕ) (page : List ℕ) (tag : Tag) (extend : Bool)
+page_measured : (s : State) (gpa : ℕ) (page : List ℕ) (tag : Option Tag) (extend : Bool)
     → records_by (page_commands (length s.entries) (page_with gpa page tag extend)) s
     ≡ page_records s.kind (page_with gpa page tag extend)
-page_measured s gpa page tag false =
+page_measured s gpa page None false = refl
+page_measured s gpa page None true =
+    ap (λ o. of_entry records_of_extend o ++ []) (slice_get_end s.entries (new_entry gpa page))
+    ∙ append-nil (records_of_extend (new_entry gpa page))
+page_measured s gpa page (Some tag) false =
     ap (λ o. of_entry (records_of_add s.kind tag) o ++ []) (slice_get_end s.entries (new_entry gpa page))
-page_measured s gpa page tag true =
+page_measured s gpa page (Some tag) true =
     let entry = new_entry gpa page in
     let added = change_at (length s.entries) (tagged tag) (s.entries ++ entry ∷ []) in
     let there : slice_get added (length s.entries) ≡ Some (tagged tag entry) =
@@ -92,8 +104,8 @@ pages_measured s (q ∷ qs) =
 -- ---- contexts
 
 -- what is measured of a context
-abbrev pub context_records : Context → List LaunchRecord
-context_records c = records_of_context c.gpa c.page
+abbrev pub context_records : PlatformKind → Context → List LaunchRecord
+context_records kind c = records_of_context kind c.gpa c.page
 
 contexts_done : (s : State) (cs : List Context)
     → state_after (context_commands cs) s ≡ record s { contexts = s.contexts ++ cs }
@@ -103,17 +115,17 @@ contexts_done s (c ∷ cs) =
     ∙ ap (λ cs. record s { contexts = cs }) (append_assoc s.contexts (c ∷ []) cs)
 
 contexts_measured : (s : State) (cs : List Context)
-    → records_by (context_commands cs) s ≡ flat_map context_records cs
+    → records_by (context_commands cs) s ≡ flat_map (context_records s.kind) cs
 contexts_measured s [] = refl
 contexts_measured s (c ∷ cs) =
-    ap (λ rs. context_records c ++ rs) (contexts_measured (record s { contexts = s.contexts ++ c ∷ [] }) cs)
+    ap (λ rs. context_records s.kind c ++ rs) (contexts_measured (record s { contexts = s.contexts ++ c ∷ [] }) cs)
 
 -- ---- a header
 
 -- what is measured of a header's pages and context
 abbrev pub header_records : PlatformKind → Load → (ℕ → ℕ → List ℕ) → PlacedHeader → List LaunchRecord
 header_records kind load area_page p =
-    flat_map (page_records kind) (header_pages load area_page p) ++ flat_map context_records (header_contexts p)
+    flat_map (page_records kind) (header_pages load area_page p) ++ flat_map (context_records kind) (header_contexts p)
 
 -- a header's pages and context are in the machine
 pub header_done : (load : Load) (area_page : ℕ → ℕ → List ℕ) (p : PlacedHeader) (s : State)
@@ -134,7 +146,8 @@ header_measured load area_page p s =
     records_by-append commands (context_commands (header_contexts p)) s
     ∙ ap (λ rs. rs ++ records_by (context_commands (header_contexts p)) (state_after commands s)) (pages_measured s qs)
     ∙ ap (λ rs. flat_map (page_records s.kind) qs ++ rs)
-    (contexts_measured (state_after commands s) (header_contexts p))
+    (contexts_measured (state_after commands s) (header_contexts p)
+    ∙ ap (λ (t : State). flat_map (context_records t.kind) (header_contexts p)) (pages_done s qs))
 
 -- how many entries there are behind a header
 pub slot_after : (s : State) (qs : List PlacedPage) (cs : List Context)

@@ -18,7 +18,7 @@ use Rattle.param_areas.specs.Calls.{AreInOrder, Call, byte_under, content_of, se
 use Rattle.image_loader.specs.FilledAreas.{calls_of, filled_byte, filled_page}
 use Rattle.image_loader.specs.Fitting.{AreasAreBehind, InsertsFit, page_in}
 use Rattle.image_loader.specs.Loads.{Load, areas_in}
-use Rattle.image_loader.specs.PlacedPages.{header_pages, is_extended, page_at, page_bytes, page_with, tagged_pages}
+use Rattle.image_loader.specs.PlacedPages.{header_pages, added_by, is_extended, page_at, page_bytes, page_with, tagged_pages}
 
 -- each byte of a page is the one that was told
 abbrev pub PagesAreTold : Type 0
@@ -74,7 +74,8 @@ pages_agree load one other p None count agree = refl
 pages_agree load one other p (Some tag) count agree =
     map_agree (page_at load one p tag) (page_at load other p tag) count
     (λ k few.
-    ap (λ bytes. page_with (gpa_of p.header + 4096 * k) bytes tag (is_extended load.platform.kind tag)) (agree k few))
+    ap (λ bytes. page_with (gpa_of p.header + 4096 * k) bytes (added_by load.platform.kind tag)
+    (is_extended load.platform.kind tag)) (agree k few))
 
 -- all pages of a header
 pub header_filled : PagesAreTold → BytesAreTold → (load : Load) (before : List PlacedHeader) (p : PlacedHeader)

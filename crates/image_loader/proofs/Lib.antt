@@ -5,10 +5,11 @@ mod FittingAreas
 mod MovingAreas
 mod FilledPages
 mod CommandsJoined
-mod Done
+pub mod Done
 mod Agreement
 mod Carried
 mod PageTags
+mod PageSteps
 mod PlacedRow
 mod TaggedPages
 mod Endings
@@ -16,4 +17,5 @@ mod NextHeaders
 mod NewPages
 mod Counts
 mod Carries
+pub mod StoppedLoads
 mod WholeLoads

@@ -1,5 +1,5 @@
 -- What is known of the next header of an image that fits.
-use Rattle.std.proofs.Common.{◌≡◌, ℕ, ◌+◌, ◌*◌, ◌%◌, ◌^◌, ◌<◌, ◌≤◌, List, [], ◌∷◌, ◌++◌, length, refl, sym, ◌∙◌, ap, subst, arith, Bool, true, false, not, cond, Option, Some, None, inl, inr}
+use Rattle.std.proofs.Common.{◌≡◌, ℕ, ◌+◌, ◌*◌, ◌%◌, ◌^◌, ◌<◌, ◌≤◌, List, [], ◌∷◌, ◌++◌, length, refl, sym, ◌∙◌, ap, subst, arith, Bool, true, false, not, cond, Option, Some, None}
 use Rattle.std.specs.Prelude.{IsSome}
 use Rattle.std.specs.Bool.{then_some}
 use Rattle.std.specs.Option.{option_or}
@@ -10,9 +10,9 @@ use Rattle.igvm_headers.specs.declared.header.Header.{Header}
 use Rattle.igvm_headers.specs.declared.header.Header.TheVariants.{Page, Insert, Context}
 use Rattle.igvm_headers.specs.declared.options.Options.{Options}
 use Rattle.igvm_headers.specs.declared.page_kind.PageKind.{PageKind}
-use Rattle.igvm_headers.specs.declared.page_kind.PageKind.TheVariants.{Normal}
+use Rattle.igvm_headers.specs.declared.page_kind.PageKind.TheVariants.{Normal, Secrets, Cpuid, CpuidXf}
 use Rattle.igvm_headers.specs.declared.platform_kind.PlatformKind.{PlatformKind}
-use Rattle.igvm_headers.specs.declared.platform_kind.PlatformKind.TheVariants.{SevSnp, Tdx}
+use Rattle.igvm_headers.specs.declared.platform_kind.PlatformKind.TheVariants.{SevSnp}
 use Rattle.platform_masks.specs.Masks.{applies}
 use Rattle.host_set.specs.declared.range.PlanRange.{PlanRange}
 use Rattle.igvm_image.specs.Areas.{areas_of}
@@ -25,8 +25,8 @@ use Rattle.directive_rules.specs.declared.misfit.Misfit.{Misfit}
 use Rattle.directive_rules.specs.declared.misfit.Why.{Why}
 use Rattle.directive_rules.specs.declared.misfit.Why.TheVariants.{TypeNotHere, ContextNotHere, ContextRepeated}
 use Rattle.directive_rules.specs.FirstMisfit.{headers_in, headers_for, misfit_or, misfit_after, setting_of}
-use Rattle.directive_rules.specs.MisfitRows.{Setting, type_not_here, is_snp, why_of, row}
-use Rattle.launch_platform.specs.Machine.{State, HasDigest, has_context}
+use Rattle.directive_rules.specs.MisfitRows.{Setting, type_not_here, why_of, row}
+use Rattle.launch_platform.specs.Machine.{State, has_context}
 use Rattle.image_loader.specs.Loads.{Load, areas_in}
 use Rattle.image_loader.specs.Fitting.{ContextsFit, HasOwnData, IsNext, MachineIsBehind, PagesEnter}
 
@@ -112,24 +112,14 @@ abbrev pub PagesFitLaw : Type 0
 PagesFitLaw = (file : List ℕ) → IsAccepted file
     → AllByRecursion (λ p. PagesFit (areas_of (headers_of file)) p.header) (placed_headers file)
 
--- a page has a tag on SEV-SNP, and on TDX where it may be placed there
+-- a page has a tag where the platform has pages of its kind
 page_has_tag : (kind : PlatformKind) (options : Options) (gpa mask offset : ℕ) (large unmeasured : Bool) (of : PageKind)
-    → HasDigest kind → type_not_here kind of ≡ false
-    → IsSome (tag_of (Page gpa mask offset large unmeasured of) kind options)
-page_has_tag kind options gpa mask offset large unmeasured of (inl snp) fits =
-    subst (λ kind. IsSome (tag_of (Page gpa mask offset large unmeasured of) kind options)) (sym snp) (on_snp of)
-  where
-    on_snp : (of : PageKind) → IsSome (tag_of (Page gpa mask offset large unmeasured of) SevSnp options)
-    on_snp Normal = refl
-    on_snp _ = refl
-page_has_tag kind options gpa mask offset large unmeasured of (inr tdx) fits =
-    subst (λ kind. IsSome (tag_of (Page gpa mask offset large unmeasured of) kind options)) (sym tdx)
-    (on_tdx of (subst (λ kind. type_not_here kind of ≡ false) tdx fits))
-  where
-    on_tdx : (of : PageKind) → type_not_here Tdx of ≡ false
-        → IsSome (tag_of (Page gpa mask offset large unmeasured of) Tdx options)
-    on_tdx Normal fits = refl
-    on_tdx _ fits = cc
+    → type_not_here kind of ≡ false → IsSome (tag_of (Page gpa mask offset large unmeasured of) kind options)
+page_has_tag kind options gpa mask offset large unmeasured Normal fits = refl
+page_has_tag SevSnp options gpa mask offset large unmeasured Secrets fits = refl
+page_has_tag SevSnp options gpa mask offset large unmeasured Cpuid fits = refl
+page_has_tag SevSnp options gpa mask offset large unmeasured CpuidXf fits = refl
+page_has_tag kind options gpa mask offset large unmeasured of fits = cc
 
 -- a page's address is that of a page of 4,096 bytes, and all of it is within the address space
 page_aligned : (large : Bool) (gpa : ℕ) → gpa % page_bytes large ≡ 0 → gpa % 4096 ≡ 0
@@ -142,19 +132,19 @@ page_within true gpa fits few = omega arith
 page_within false gpa fits few = omega arith
 
 -- the machine takes the pages of a header without a row
-enters : (load : Load) (plan : List PlanRange) (before : List Header) (h : Header) → HasDigest load.platform.kind
+enters : (load : Load) (plan : List PlanRange) (before : List Header) (h : Header)
     → row (setting_of load.file load.platform plan load.host) before h ≡ None → PagesFit (areas_in load) h
     → NumbersFit h → PagesEnter load h
 unfolding why_of
-enters load plan before (Page gpa mask offset large unmeasured kind) digest none fits numbers = record {
-  tagged = page_has_tag load.platform.kind load.options gpa mask offset large unmeasured kind digest
+enters load plan before (Page gpa mask offset large unmeasured kind) none fits numbers = record {
+  tagged = page_has_tag load.platform.kind load.options gpa mask offset large unmeasured kind
       (unless_none _ TypeNotHere (both_none _ _ none).0);
   aligned = page_aligned large gpa fits;
   within = page_within large gpa fits numbers.0;
 }
-enters load plan before (Insert gpa mask area) digest none fits numbers =
+enters load plan before (Insert gpa mask area) none fits numbers =
     record { tagged = refl; aligned = fits.0; within = omega (arith, fits.1) }
-enters load plan before _ digest none fits numbers = tt
+enters load plan before _ none fits numbers = tt
 
 -- the machine takes the pages of the next header
 pub pages_enter : PagesFitLaw → (load : Load) (plan : List PlanRange) (done left : List PlacedHeader)
@@ -162,17 +152,16 @@ pub pages_enter : PagesFitLaw → (load : Load) (plan : List PlanRange) (done le
 pages_enter pages_fit load plan done left p next =
     let all = subst (AllByRecursion (λ (p : PlacedHeader). PagesFit (areas_in load) p.header)) (sym next.whole)
     (pages_fit load.file next.accepted) in
-    enters load plan (headers_in (headers_for load.platform.mask done)) p.header next.digest
+    enters load plan (headers_in (headers_for load.platform.mask done)) p.header
     (next_row load plan done left p next)
     (here (λ (p : PlacedHeader). PagesFit (areas_in load) p.header) done left p all)
     next.numbers
 
 -- ---- its context
 
--- a platform that has contexts is SEV-SNP
-only_snp : (kind : PlatformKind) → not (is_snp kind) ≡ false → kind ≡ SevSnp
-only_snp SevSnp fits = refl
-only_snp _ fits = cc
+not_false : (b : Bool) → not b ≡ false → b ≡ true
+not_false true fits = refl
+not_false false fits = cc
 
 -- the machine takes the context of a header without a row
 context_fits : (load : Load) (plan : List PlanRange) (before : List Header) (s : State) (h : Header)
@@ -181,7 +170,7 @@ context_fits : (load : Load) (plan : List PlanRange) (before : List Header) (s :
     → ContextsFit load s.contexts h
 unfolding why_of
 context_fits load plan before s (Context gpa mask offset vp) none contexts = record {
-  snp = only_snp load.platform.kind (unless_none _ ContextNotHere (both_none _ _ none).0);
+  kind = not_false _ (unless_none _ ContextNotHere (both_none _ _ none).0);
   new = contexts vp ∙ unless_none _ ContextRepeated (both_none _ _ none).1;
 }
 context_fits load plan before s _ none contexts = tt

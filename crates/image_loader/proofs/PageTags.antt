@@ -1,6 +1,6 @@
 -- How the pages of a header enter a launch.
-use Rattle.std.proofs.Common.{◌≡◌, ℕ, List, refl, sym, ap, subst, ◌∙◌, Some, Bool, true, false, inl, inr}
-use Rattle.std.specs.Prelude.{replicate, ◌&&◌, ◌==◌}
+use Rattle.std.proofs.Common.{◌≡◌, ℕ, List, refl, sym, ap, subst, ◌∙◌, Some, Bool, true, false}
+use Rattle.std.specs.Prelude.{replicate, ◌&&◌, ◌==◌, Option, IfSome}
 use Rattle.igvm_headers.specs.HeaderFacts.{data_offset}
 use Rattle.igvm_headers.specs.Pages.{body_page}
 use Rattle.igvm_headers.specs.declared.header.Header.{Header}
@@ -10,20 +10,25 @@ use Rattle.igvm_headers.specs.declared.page_kind.PageKind.TheVariants.{Normal}
 use Rattle.igvm_headers.specs.declared.platform_kind.PlatformKind.{PlatformKind}
 use Rattle.igvm_headers.specs.declared.platform_kind.PlatformKind.TheVariants.{SevSnp, Tdx}
 use Rattle.igvm_headers.specs.declared.tag.Tag.{Tag}
+use Rattle.igvm_headers.specs.declared.tag.Tag.TheVariants as tag
 use Rattle.directive_rules.specs.Tags.{tag_of, normal_tag, is_native_zero}
 use Rattle.host_set.specs.Hosts.{HostValues}
 use Rattle.igvm_image.specs.Data.{Data, data_page}
 use Rattle.igvm_image.specs.Headers.{PlacedHeader}
-use Rattle.launch_platform.specs.Machine.{HasDigest}
 use Rattle.launch_platform.specs.Commands.{TagFits}
 use Rattle.image_loader.specs.Loads.{Load}
-use Rattle.image_loader.specs.PlacedPages.{is_extended, kind_page, page_bytes}
+use Rattle.image_loader.specs.PlacedPages.{added_by, is_extended, kind_page, page_bytes}
 use Rattle.image_loader.specs.Fitting.{HasOwnData}
 
 -- only TDX extends pages
 pub extended_kind : (kind : PlatformKind) (t : Tag) → is_extended kind t ≡ true → kind ≡ Tdx
 extended_kind Tdx t is = refl
 extended_kind kind t is = cc
+
+-- and only pages that are added as normal
+pub extended_normal : (kind : PlatformKind) (t : Tag) → is_extended kind t ≡ true → added_by kind t ≡ Some tag.Normal
+extended_normal Tdx tag.Normal is = refl
+extended_normal kind t is = cc
 
 -- data at file offset 0 are zeros
 zero_data : (native : Bool) (content : Data) (offset k : ℕ) → content.offset ≡ offset
@@ -67,24 +72,24 @@ tdx_fits options (Page gpa mask offset large unmeasured kind) page t is = cc
 tdx_fits options (Insert gpa mask area) page t is = subst (λ t. TagFits Tdx t page) (some_same is) tt
 tdx_fits options h page t is = cc
 
-platform_fits : (load : Load) (area_page : ℕ → ℕ → List ℕ) (p : PlacedHeader) (t : Tag) (k : ℕ)
-    → HasDigest load.platform.kind → tag_of p.header load.platform.kind load.options ≡ Some t → HasOwnData p
-    → TagFits load.platform.kind t (page_bytes load.host area_page p.header p.content k)
-platform_fits load area_page p t k (inl is) tagged own =
-    let page = page_bytes load.host area_page p.header p.content k in
-    subst (λ kind. TagFits kind t page) (sym is)
-    (snp_fits load.options load.host area_page p.header p.content k t
-    (subst (λ kind. tag_of p.header kind load.options ≡ Some t) is tagged) own.offset)
-platform_fits load area_page p t k (inr is) tagged own =
-    let page = page_bytes load.host area_page p.header p.content k in
-    subst (λ kind. TagFits kind t page) (sym is)
-    (tdx_fits load.options p.header page t (subst (λ kind. tag_of p.header kind load.options ≡ Some t) is tagged))
+-- each platform takes the tag by which the pages of a header are added, if they are
+platform_fits : (kind : PlatformKind) (options : Options) (host : HostValues) (area_page : ℕ → ℕ → List ℕ) (h : Header)
+    (content : Data) (k : ℕ) (t : Tag) → tag_of h kind options ≡ Some t → content.offset ≡ data_offset h
+    → IfSome (added_by kind t) (λ u. TagFits kind u (page_bytes host area_page h content k))
+platform_fits SevSnp options host area_page h content k t is own = snp_fits options host area_page h content k t is own
+platform_fits Tdx options host area_page h content k t is own =
+    tdx_fits options h (page_bytes host area_page h content k) t is
+platform_fits kind options host area_page h content k tag.Normal is own = tt
+platform_fits kind options host area_page h content k t is own = tt
 
 -- a platform takes the tag of a header for each of its pages
 pub tag_fits : (load : Load) (area_page : ℕ → ℕ → List ℕ) (p : PlacedHeader) (t : Tag) (k : ℕ) (kind : PlatformKind)
-    (bytes : List ℕ) → kind ≡ load.platform.kind → bytes ≡ page_bytes load.host area_page p.header p.content k
-    → HasDigest load.platform.kind → tag_of p.header load.platform.kind load.options ≡ Some t → HasOwnData p
-    → TagFits kind t bytes
-tag_fits load area_page p t k kind bytes same made digest tagged own =
-    subst (λ kind. TagFits kind t bytes) (sym same)
-    (subst (TagFits load.platform.kind t) (sym made) (platform_fits load area_page p t k digest tagged own))
+    (bytes : List ℕ) (added : Option Tag) → kind ≡ load.platform.kind
+    → bytes ≡ page_bytes load.host area_page p.header p.content k → added ≡ added_by load.platform.kind t
+    → tag_of p.header load.platform.kind load.options ≡ Some t → HasOwnData p
+    → IfSome added (λ u. TagFits kind u bytes)
+tag_fits load area_page p t k kind bytes added same made by tagged own =
+    subst (λ o. IfSome o (λ u. TagFits kind u bytes)) (sym by)
+    (subst (λ kind. IfSome (added_by load.platform.kind t) (λ u. TagFits kind u bytes)) (sym same)
+    (subst (λ bytes. IfSome (added_by load.platform.kind t) (λ u. TagFits load.platform.kind u bytes)) (sym made)
+    (platform_fits load.platform.kind load.options load.host area_page p.header p.content k t tagged own.offset)))

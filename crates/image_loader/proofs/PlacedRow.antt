@@ -1,15 +1,15 @@
 -- Pages put into a machine one after the other.
-use Rattle.std.proofs.Common.{◌≡◌, ℕ, suc, ◌+◌, ◌*◌, ◌<◌, List, [], ◌∷◌, ◌++◌, length, map, take, drop, get_or, sym, ap, subst, ◌∙◌, arith, append_assoc, length-append, Bool, false}
+use Rattle.std.proofs.Common.{◌≡◌, ℕ, suc, ◌+◌, ◌*◌, ◌<◌, List, [], ◌∷◌, ◌++◌, length, map, take, drop, get_or, sym, ap, subst, ◌∙◌, arith, append_assoc, length-append, Bool, false, Option}
 use Rattle.std.specs.List.{range_with_len}
 use Rattle.std.proofs.lemmas.List.{append-nil, take_more, drop_more, take-append-drop, take_all, length-map}
 use Rattle.std.proofs.lemmas.List.FromFn.{get_or-map-range_with_len, length-map-range_with_len}
 use Rattle.igvm_headers.specs.HeaderFacts.{gpa_of}
 use Rattle.igvm_headers.specs.declared.tag.Tag.{Tag}
 use Rattle.igvm_image.specs.Headers.{PlacedHeader}
-use Rattle.launch_platform.specs.declared.launch.Launch as launches
+use Rattle.image_loader.specs.declared.carrier.Carrier as carriers
 use Rattle.launch_platform.specs.Machine.{State, is_placed}
 use Rattle.image_loader.specs.Loads.{Load}
-use Rattle.image_loader.specs.PlacedPages.{PlacedPage, page_with, page_at, entry_of, is_extended, page_bytes}
+use Rattle.image_loader.specs.PlacedPages.{PlacedPage, page_with, page_at, entry_of, added_by, is_extended, page_bytes}
 use Rattle.image_loader.specs.LoadCommands.{Did, Stopped, state_after, page_commands, pages_commands}
 use Rattle.image_loader.specs.Fitting.{AreFresh}
 use Rattle.image_loader.specs.Carrying.{Placing}
@@ -28,20 +28,20 @@ pages_commands-append n (p ∷ ps) qs =
 
 -- ---- a machine with the first k of a row of pages
 
-placing_state : {L : Type 0} (g : launches.Ghosts L) (qs : List PlacedPage) (k : ℕ) (a b : L)
+placing_state : {C M : Type 0} (g : carriers.Ghosts C M) (qs : List PlacedPage) (k : ℕ) (a b : M)
     → Placing g qs k a b
     → g.state b ≡ record (g.state a) { entries = (g.state a).entries ++ map entry_of (take k qs) }
 placing_state g qs k a b p = p.did.state ∙ pages_done (g.state a) (take k qs)
 
-pub placing_phase : {L : Type 0} (g : launches.Ghosts L) (qs : List PlacedPage) (k : ℕ) (a b : L)
+pub placing_phase : {C M : Type 0} (g : carriers.Ghosts C M) (qs : List PlacedPage) (k : ℕ) (a b : M)
     → Placing g qs k a b → (g.state b).phase ≡ (g.state a).phase
 placing_phase g qs k a b p = ap (λ (s : State). s.phase) (placing_state g qs k a b p)
 
-pub placing_kind : {L : Type 0} (g : launches.Ghosts L) (qs : List PlacedPage) (k : ℕ) (a b : L)
+pub placing_kind : {C M : Type 0} (g : carriers.Ghosts C M) (qs : List PlacedPage) (k : ℕ) (a b : M)
     → Placing g qs k a b → (g.state b).kind ≡ (g.state a).kind
 placing_kind g qs k a b p = ap (λ (s : State). s.kind) (placing_state g qs k a b p)
 
-placing_slot : {L : Type 0} (g : launches.Ghosts L) (qs : List PlacedPage) (k : ℕ) (a b : L)
+placing_slot : {C M : Type 0} (g : carriers.Ghosts C M) (qs : List PlacedPage) (k : ℕ) (a b : M)
     → Placing g qs k a b → length (g.state b).entries ≡ length (g.state a).entries + length (take k qs)
 placing_slot g qs k a b p =
     ap (λ (s : State). length s.entries) (placing_state g qs k a b p)
@@ -55,7 +55,7 @@ front_more k qs q within is =
     take_more qs k q within ∙ ap (λ x. take k qs ++ x ∷ []) same
 
 -- one page more
-placing_more : {L : Type 0} (g : launches.Ghosts L) (qs : List PlacedPage) (k : ℕ) (q : PlacedPage) (a b c : L)
+placing_more : {C M : Type 0} (g : carriers.Ghosts C M) (qs : List PlacedPage) (k : ℕ) (q : PlacedPage) (a b c : M)
     → Placing g qs k a b → k < length qs → drop k qs ≡ q ∷ drop (k + 1) qs
     → Did g (page_commands (length (g.state b).entries) q) 1 0 b c → Placing g qs (k + 1) a c
 placing_more g qs k q a b c p within is did =
@@ -76,7 +76,7 @@ placing_more g qs k q a b c p within is did =
     }
 
 -- a fault at the next page
-placing_stopped : {L : Type 0} (g : launches.Ghosts L) (qs : List PlacedPage) (k : ℕ) (q : PlacedPage) (a b c : L)
+placing_stopped : {C M : Type 0} (g : carriers.Ghosts C M) (qs : List PlacedPage) (k : ℕ) (q : PlacedPage) (a b c : M)
     → Placing g qs k a b → drop k qs ≡ q ∷ drop (k + 1) qs
     → Stopped g (page_commands (length (g.state b).entries) q) b c
     → Stopped g (pages_commands (length (g.state a).entries) qs) a c
@@ -105,11 +105,11 @@ row_here page n k within =
     (get_or-map-range_with_len page 0 n k k (page k) within (omega arith))
 
 -- the next page is new
-pub row_new : {L : Type 0} (g : launches.Ghosts L) (page : ℕ → PlacedPage) (n k : ℕ) (a b : L)
+pub row_new : {C M : Type 0} (g : carriers.Ghosts C M) (page : ℕ → PlacedPage) (n k : ℕ) (a b : M)
     → Placing g (row page n) k a b → k < n → is_placed (page k).gpa (g.state b).entries ≡ false
 row_new g page n k a b p within = (subst (AreFresh (g.state b).entries) (row_here page n k within) p.fresh).0
 
-pub row_more : {L : Type 0} (g : launches.Ghosts L) (page : ℕ → PlacedPage) (n k : ℕ) (q : PlacedPage) (a b c : L)
+pub row_more : {C M : Type 0} (g : carriers.Ghosts C M) (page : ℕ → PlacedPage) (n k : ℕ) (q : PlacedPage) (a b c : M)
     → Placing g (row page n) k a b → k < n → q ≡ page k
     → Did g (page_commands (length (g.state b).entries) q) 1 0 b c → Placing g (row page n) (k + 1) a c
 row_more g page n k q a b c p within is did =
@@ -117,7 +117,7 @@ row_more g page n k q a b c p within is did =
     placing_more g (row page n) k (page k) a b c p (omega arith) (row_here page n k within)
     (subst (λ q. Did g (page_commands (length (g.state b).entries) q) 1 0 b c) is did)
 
-pub row_stopped : {L : Type 0} (g : launches.Ghosts L) (page : ℕ → PlacedPage) (n k : ℕ) (q : PlacedPage) (a b c : L)
+pub row_stopped : {C M : Type 0} (g : carriers.Ghosts C M) (page : ℕ → PlacedPage) (n k : ℕ) (q : PlacedPage) (a b c : M)
     → Placing g (row page n) k a b → k < n → q ≡ page k
     → Stopped g (page_commands (length (g.state b).entries) q) b c
     → Stopped g (pages_commands (length (g.state a).entries) (row page n)) a c
@@ -126,7 +126,7 @@ row_stopped g page n k q a b c p within is stopped =
     (subst (λ q. Stopped g (page_commands (length (g.state b).entries) q) b c) is stopped)
 
 -- all pages are placed
-pub row_done : {L : Type 0} (g : launches.Ghosts L) (page : ℕ → PlacedPage) (n k : ℕ) (a b : L)
+pub row_done : {C M : Type 0} (g : carriers.Ghosts C M) (page : ℕ → PlacedPage) (n k : ℕ) (a b : M)
     → Placing g (row page n) k a b → k ≡ n
     → Did g (pages_commands (length (g.state a).entries) (row page n)) n 0 a b
 row_done g page n k a b p all =
@@ -137,7 +137,8 @@ row_done g page n k a b p all =
 
 -- what is put in for page k of a header is that page
 pub page_made : (load : Load) (area_page : ℕ → ℕ → List ℕ) (p : PlacedHeader) (t : Tag) (k gpa : ℕ) (bytes : List ℕ)
-    (extend : Bool) → gpa ≡ gpa_of p.header → bytes ≡ page_bytes load.host area_page p.header p.content k
+    (added : Option Tag) (extend : Bool) → gpa ≡ gpa_of p.header
+    → bytes ≡ page_bytes load.host area_page p.header p.content k → added ≡ added_by load.platform.kind t
     → extend ≡ is_extended load.platform.kind t
-    → page_with (gpa + 4096 * k) bytes t extend ≡ page_at load area_page p t k
-page_made load area_page p t k gpa bytes extend at same measured = cc
+    → page_with (gpa + 4096 * k) bytes added extend ≡ page_at load area_page p t k
+page_made load area_page p t k gpa bytes added extend at same tagged measured = cc

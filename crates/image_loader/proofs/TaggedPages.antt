@@ -5,7 +5,7 @@ use Rattle.igvm_headers.specs.declared.tag.Tag.{Tag}
 use Rattle.directive_rules.specs.Tags.{tag_of}
 use Rattle.igvm_image.specs.Areas.{placed_pages}
 use Rattle.igvm_image.specs.Headers.{PlacedHeader}
-use Rattle.launch_platform.specs.declared.launch.Launch as launches
+use Rattle.image_loader.specs.declared.carrier.Carrier as carriers
 use Rattle.launch_platform.specs.Machine.{Context}
 use Rattle.image_loader.specs.Loads.{Load, areas_in}
 use Rattle.image_loader.specs.PlacedPages.{PlacedPage, page_at, tagged_pages, header_pages}
@@ -32,23 +32,23 @@ pub length_row : (page : ℕ → PlacedPage) (n : ℕ) (qs : List PlacedPage) �
 length_row page n qs same = sym (length-map-range_with_len page 0 n) ∙ ap length same
 
 -- a row that was put in is that of a header
-pub did_row : {L : Type 0} (g : launches.Ghosts L) (slot : ℕ) (page : ℕ → PlacedPage) (n : ℕ) (qs : List PlacedPage)
-    (a b : L) → row page n ≡ qs → Did g (pages_commands slot (row page n)) n 0 a b
+pub did_row : {C M : Type 0} (g : carriers.Ghosts C M) (slot : ℕ) (page : ℕ → PlacedPage) (n : ℕ) (qs : List PlacedPage)
+    (a b : M) → row page n ≡ qs → Did g (pages_commands slot (row page n)) n 0 a b
     → Did g (pages_commands slot qs) (length qs) 0 a b
 did_row g slot page n qs a b same did =
     subst (λ m. Did g (pages_commands slot qs) m 0 a b) (length_row page n qs same)
     (subst (λ qs. Did g (pages_commands slot qs) n 0 a b) same did)
 
 -- a header with no tag has no pages
-pub did_no_pages : {L : Type 0} (g : launches.Ghosts L) (slot : ℕ) (load : Load) (area_page : ℕ → ℕ → List ℕ)
-    (p : PlacedHeader) (a : L) → tag_of p.header load.platform.kind load.options ≡ None
+pub did_no_pages : {C M : Type 0} (g : carriers.Ghosts C M) (slot : ℕ) (load : Load) (area_page : ℕ → ℕ → List ℕ)
+    (p : PlacedHeader) (a : M) → tag_of p.header load.platform.kind load.options ≡ None
     → Did g (pages_commands slot (header_pages load area_page p)) (length (header_pages load area_page p)) 0 a a
 did_no_pages g slot load area_page p a is =
     subst (λ qs. Did g (pages_commands slot qs) (length qs) 0 a a) (no_pages load area_page p is) (did_none g a)
 
 -- pages, and contexts behind them
-pub did_header : {L : Type 0} (g : launches.Ghosts L) (slot : ℕ) (qs : List PlacedPage) (contexts : List Context)
-    (a b c : L) → Did g (pages_commands slot qs) (length qs) 0 a b
+pub did_header : {C M : Type 0} (g : carriers.Ghosts C M) (slot : ℕ) (qs : List PlacedPage) (contexts : List Context)
+    (a b c : M) → Did g (pages_commands slot qs) (length qs) 0 a b
     → Did g (context_commands contexts) 0 (length contexts) b c
     → Did g (pages_commands slot qs ++ context_commands contexts) (length qs) (length contexts) a c
 did_header g slot qs contexts a b c first second =

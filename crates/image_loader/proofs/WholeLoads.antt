@@ -1,9 +1,9 @@
--- A load from its start on: what the machine is once all commands are carried out, and where a fault may stop it.
-use Rattle.std.proofs.Common.{◌≡◌, ◌≢◌, ◌+◌, List, [], length, map, take, refl, sym, ap, subst, ◌∙◌, arith, length-append, None, Some, Result, Ok, Err, inr}
+-- A load from its start on: what the machine is once all commands are carried out, and how it ends.
+use Rattle.std.proofs.Common.{◌≡◌, ◌≢◌, List, [], ◌++◌, length, map, take, refl, sym, ap, subst, ◌∙◌, arith, None, Some, Result, Ok, Err, inr}
 use Rattle.std.specs.Prelude.{OnOk, IfOk, IsErrOf, Option}
 use Rattle.std.specs.List.{filter_map}
 use Rattle.std.specs.Option.{option_to_list}
-use Rattle.std.proofs.lemmas.List.{take_at, take_all}
+use Rattle.std.proofs.lemmas.List.{take_all}
 use Rattle.host_set.specs.declared.range.PlanRange.{PlanRange}
 use Rattle.directive_rules.specs.FirstMisfit.{first_misfit}
 use Rattle.directive_rules.specs.LoadCounts.{wanted_of}
@@ -17,8 +17,7 @@ use Rattle.image_loader.specs.declared.answers.ExecuteRefusal.{ExecuteRefusal}
 use Rattle.image_loader.specs.declared.answers.ExecuteRefusal.TheVariants.{Launch, Memory}
 use Rattle.image_loader.specs.Loads.{Load, directives}
 use Rattle.image_loader.specs.PlacedPages.{entry_of, placed, contexts}
-use Rattle.image_loader.specs.LoadCommands.{Stopped, commands, grown, records_by, state_after}
-use Rattle.image_loader.specs.Carrying.{Ran}
+use Rattle.image_loader.specs.LoadCommands.{commands, grown, records_by, state_after}
 use Rattle.image_loader.specs.Preparing.{FitsAPlan}
 use Rattle.image_loader.specs.Loading.{HoldsImage, EndsBy, IsStopped, Concludes}
 use Rattle.image_loader.proofs.Endings.{id_is_wanted, holds_and_ends}
@@ -50,15 +49,18 @@ pub record IsRun {L : Type 0} (g : launches.Ghosts L) (load : Load) (id : Option
 pub is_run : CommandsAgree → CommandsPlace → {L : Type 0} (g : launches.Ghosts L) (load : Load)
     (id : Option IdWanted) (a b : L)
     → HasDigest load.platform.kind → FitsAPlan load → option_to_list id ≡ filter_map wanted_of (directives load)
-    → g.state a ≡ started load.platform.kind → g.holds a [] → Ran g (commands load) a b → IsRun g load id b
-is_run agree place g load id a b digest fits ids begun empty ran =
-    let after = ran.state ∙ ap (state_after (commands load)) begun in
+    → g.state a ≡ started load.platform.kind → g.holds a [] → g.state b ≡ state_after (commands load) (g.state a)
+    → ((records : List LaunchRecord) → g.holds a records
+    → g.holds b (records ++ records_by (commands load) (g.state a)))
+    → IsRun g load id b
+is_run agree place g load id a b digest fits ids begun empty state held =
+    let after = state ∙ ap (state_after (commands load)) begun in
     let whole = after ∙ place load in
     let records = records_by (commands load) (started load.platform.kind) in
     record {
       after = after;
       whole = whole;
-      held = subst (λ (s : State). g.holds b (records_by (commands load) s)) begun (ran.held [] empty);
+      held = subst (λ (s : State). g.holds b (records_by (commands load) s)) begun (held [] empty);
       digest = ap (λ (s : State). Some (launch_digest s.kind records)) whole ∙ agree load fits.plan digest fits.fits;
       wanted = id_is_wanted load id ids;
     }
@@ -114,26 +116,7 @@ stopped_at_end g load id old b c (Err Launch) run ends held is =
     )
 stopped_at_end g load id old b c (Err Memory) run ends held is = absurd (cc)
 
--- ---- on its way
-
--- a fault on the way: a front of the commands is carried out
-pub stopped_on_the_way : {L : Type 0} (g : launches.Ghosts L) (load : Load) (old a b : L)
-    → g.state a ≡ started load.platform.kind → g.holds a [] → Stopped g (commands load) a b → IsStopped g load old b
-stopped_on_the_way g load old a b begun empty stopped =
-    let front : take (length stopped.front) (commands load) ≡ stopped.front =
-    ap (take (length stopped.front)) (sym stopped.split) ∙ take_at stopped.front stopped.back (length stopped.front) refl in
-    let size : length stopped.front + length stopped.back ≡ length (commands load) =
-    sym (length-append stopped.front stopped.back) ∙ ap length stopped.split in
-    inr (
-      length stopped.front,
-      record {
-        some = omega arith;
-        state = stopped.state ∙ ap (state_after stopped.front) begun ∙ ap
-            (λ cs. state_after cs (started load.platform.kind)) (sym front);
-        held = subst (λ cs. g.holds b (records_by cs (started load.platform.kind))) (sym front)
-            (subst (λ (s : State). g.holds b (records_by stopped.front s)) begun (stopped.held [] empty));
-      },
-    )
+-- ---- answers
 
 -- one refusal in results of two types
 pub err_moved : {A B E : Type 0} (e x : E) → IsErrOf {T = A} {E = E} (Err e) x → IsErrOf {T = B} {E = E} (Err e) x

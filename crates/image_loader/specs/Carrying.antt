@@ -4,7 +4,7 @@ use Rattle.igvm_image.specs.Headers.{PlacedHeader, placed_headers}
 use Rattle.igvm_image.specs.RulesInWords.{declared_bytes}
 use Rattle.host_set.specs.declared.range.PlanRange.{PlanRange}
 use Rattle.directive_rules.specs.FirstMisfit.{headers_for, headers_in, misfit_after, setting_of}
-use Rattle.launch_platform.specs.declared.launch.Launch as launches
+use Rattle.image_loader.specs.declared.carrier.Carrier as carriers
 use Rattle.launch_platform.specs.declared.phase.Phase.TheVariants.{Loading}
 use Rattle.launch_platform.specs.Machine.{LaunchRecord}
 use Rattle.launch_platform.specs.Commands.{Command}
@@ -16,20 +16,20 @@ use Rattle.image_loader.specs.Fitting.{AreFresh, AreasAreBehind, MachineIsBehind
 use Rattle.std.specs.List.{flat_map}
 
 -- a machine has carried out these commands
-pub record Ran {L : Type 0} (g : launches.Ghosts L) (cs : List Command) (old new : L) : Type 0 where
+pub record Ran {C M : Type 0} (g : carriers.Ghosts C M) (cs : List Command) (old new : M) : Type 0 where
   pub state : g.state new ≡ state_after cs (g.state old)
   pub held : (records : List LaunchRecord) → g.holds old records → g.holds new (records ++ records_by cs (g.state old))
   pub counted : g.faults new ≡ g.faults old
 
 -- The first k of these pages are in a machine, and the others are new to it.
-pub record Placing {L : Type 0} (g : launches.Ghosts L) (qs : List PlacedPage) (k : ℕ) (old new : L) : Type 0 where
+pub record Placing {C M : Type 0} (g : carriers.Ghosts C M) (qs : List PlacedPage) (k : ℕ) (old new : M) : Type 0 where
   pub did : Did g (pages_commands (length (g.state old).entries) (take k qs)) k 0 old new
   pub fresh : AreFresh (g.state new).entries (drop k qs)
 
 -- The headers that were gone through, and how a machine and the areas are behind them: some commands are carried out,
 -- those that are left complete the load's, all headers that are left fit, and there is room for what they place.
-pub record Carries {L : Type 0} (g : launches.Ghosts L) (load : Load) (left : List PlacedHeader) (space : Space)
-    (old now : L) : Type 0 where
+pub record Carries {C M : Type 0} (g : carriers.Ghosts C M) (load : Load) (left : List PlacedHeader) (space : Space)
+    (old now : M) : Type 0 where
   pub done : List PlacedHeader
   pub whole : done ++ left ≡ placed_headers load.file
   pub plan : List PlanRange

@@ -5,9 +5,9 @@ use Rattle.igvm_headers.specs.HeaderFacts.{gpa_of, data_pages, data_offset}
 use Rattle.igvm_headers.specs.Numbers.{slice}
 use Rattle.igvm_headers.specs.declared.header.Header.{Header}
 use Rattle.igvm_headers.specs.declared.header.Header.TheVariants.{Area, Page, Insert, Param, Context}
-use Rattle.igvm_headers.specs.declared.platform_kind.PlatformKind.TheVariants.{SevSnp}
 use Rattle.directive_rules.specs.DirectiveFacts.{is_context_of}
 use Rattle.directive_rules.specs.FirstMisfit.{headers_in, headers_for, misfit_after, setting_of}
+use Rattle.directive_rules.specs.MisfitRows.{has_contexts}
 use Rattle.directive_rules.specs.PageAddresses.{addresses}
 use Rattle.directive_rules.specs.Tags.{tag_of}
 use Rattle.host_set.specs.Hosts.{HostValues, value_of}
@@ -73,9 +73,9 @@ pub record AreaFits (space : Space) (area bytes : ℕ) (content : Data) : Type 0
   pub size : bytes ≡ 4096 * content.pages
   pub room : size_of_all space.areas + bytes ≤ space.total
 
--- its context is on SEV-SNP, and new
+-- its context is of a platform that has contexts, and new
 pub record ContextFits (load : Load) (contexts : List machine.Context) (vp : ℕ) : Type 0 where
-  pub snp : load.platform.kind ≡ SevSnp
+  pub kind : has_contexts load.platform.kind ≡ true
   pub new : machine.has_context vp contexts ≡ false
 
 -- what the machine needs of the pages of a header
@@ -147,7 +147,6 @@ pub record IsNext (load : Load) (plan : List PlanRange) (done : List PlacedHeade
     (left : List PlacedHeader) : Type 0 where
   pub whole : done ++ p ∷ left ≡ placed_headers load.file
   pub accepted : IsAccepted load.file
-  pub digest : machine.HasDigest load.platform.kind
   pub counts : applies p.header load.platform.mask ≡ true
   pub fits : misfit_after (setting_of load.file load.platform plan load.host)
       (headers_for load.platform.mask done) (headers_for load.platform.mask (p ∷ left)) ≡ None

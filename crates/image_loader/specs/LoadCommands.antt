@@ -1,8 +1,10 @@
 -- The commands that load an image, and what some of them leave.
-use Rattle.std.specs.Prelude.{ℕ, suc, ◌≡◌, ◌+◌, ◌≤◌, List, [], ◌∷◌, ◌++◌, length, map, take, Bool, true, false}
+use Rattle.std.specs.Prelude.{ℕ, suc, ◌≡◌, ◌+◌, ◌≤◌, List, [], ◌∷◌, ◌++◌, length, map, take, Option, Some, None, Bool, true, false}
 use Rattle.igvm_headers.specs.FaultCounts.{Rose}
+use Rattle.igvm_headers.specs.declared.tag.Tag.{Tag}
 use Rattle.igvm_image.specs.Headers.{PlacedHeader}
 use Rattle.launch_platform.specs.declared.launch.Launch as launches
+use Rattle.image_loader.specs.declared.carrier.Carrier as carriers
 use Rattle.launch_platform.specs.Machine.{State, Entry, Context, LaunchRecord, started}
 use Rattle.launch_platform.specs.Commands.{Command, Place, Add, Extend, AddContext, after_command, records_of}
 use Rattle.image_loader.specs.FilledAreas.{filled_page}
@@ -11,6 +13,11 @@ use Rattle.image_loader.specs.PlacedPages.{PlacedPage, header_pages, header_cont
 
 -- ---- the commands, between the start of the launch and its end
 
+-- a page that is part of the launch is added by its tag, as entry number `slot`
+abbrev pub add_command : Option Tag → ℕ → List Command
+add_command None slot = []
+add_command (Some tag) slot = Add slot tag ∷ []
+
 -- a page whose bytes are measured is extended, as entry number `slot`
 abbrev pub extend_command : Bool → ℕ → List Command
 extend_command true slot = Extend slot ∷ []
@@ -18,7 +25,7 @@ extend_command false slot = []
 
 -- the commands for a page that is entry number `slot`
 abbrev pub page_commands : ℕ → PlacedPage → List Command
-page_commands slot q = Place q.gpa q.page ∷ Add slot q.tag ∷ extend_command q.extended slot
+page_commands slot q = Place q.gpa q.page ∷ add_command q.tag slot ++ extend_command q.extended slot
 
 -- the commands for these pages, of which the first is entry number `slot`
 abbrev pub pages_commands : ℕ → List PlacedPage → List Command
@@ -61,14 +68,20 @@ records_by (c ∷ cs) s = records_of c s ++ records_by cs (after_command c s)
 abbrev pub grown : State → List Entry → List Context → State
 grown s entries contexts = record s { entries = s.entries ++ entries; contexts = s.contexts ++ contexts }
 
--- A machine that was idle is as the start of the load and the first n of its commands leave it.
-pub record IsAfter {L : Type 0} (g : launches.Ghosts L) (load : Load) (n : ℕ) (machine : L) : Type 0 where
+-- A machine that was idle is as the start of the load and the first n of its commands leave it, where its make says
+-- what its state is and what records it may hold.
+pub record IsAfterIn {M : Type 0} (state_of : M → State) (holds : M → List LaunchRecord → Type 0) (load : Load) (n : ℕ)
+    (machine : M) : Type 0 where
   pub some : n ≤ length (commands load)
-  pub state : g.state machine ≡ state_after (take n (commands load)) (started load.platform.kind)
-  pub held : g.holds machine (records_by (take n (commands load)) (started load.platform.kind))
+  pub state : state_of machine ≡ state_after (take n (commands load)) (started load.platform.kind)
+  pub held : holds machine (records_by (take n (commands load)) (started load.platform.kind))
+
+-- a launch machine is so
+abbrev pub IsAfter : {L : Type 0} → launches.Ghosts L → Load → ℕ → L → Type 0
+IsAfter g load n machine = IsAfterIn g.state g.holds load n machine
 
 -- A machine has carried out these commands, and so many of its spares are used.
-pub record Did {L : Type 0} (g : launches.Ghosts L) (cs : List Command) (pages contexts : ℕ) (old new : L) : Type 0 where
+pub record Did {C M : Type 0} (g : carriers.Ghosts C M) (cs : List Command) (pages contexts : ℕ) (old new : M) : Type 0 where
   pub state : g.state new ≡ state_after cs (g.state old)
   pub held : (records : List LaunchRecord) → g.holds old records → g.holds new (records ++ records_by cs (g.state old))
   pub spare_pages : (g.spares new).pages + pages ≡ (g.spares old).pages
@@ -76,7 +89,7 @@ pub record Did {L : Type 0} (g : launches.Ghosts L) (cs : List Command) (pages c
   pub counted : g.faults new ≡ g.faults old
 
 -- A fault has stopped it behind a front of these commands.
-pub record Stopped {L : Type 0} (g : launches.Ghosts L) (cs : List Command) (old new : L) : Type 0 where
+pub record Stopped {C M : Type 0} (g : carriers.Ghosts C M) (cs : List Command) (old new : M) : Type 0 where
   pub front : List Command
   pub back : List Command
   pub split : front ++ back ≡ cs

@@ -8,7 +8,7 @@ use Rattle.igvm_headers.specs.declared.header.Header.TheVariants.{Page, Insert, 
 use Rattle.igvm_headers.specs.declared.page_kind.PageKind.{PageKind}
 use Rattle.igvm_headers.specs.declared.page_kind.PageKind.TheVariants.{Normal, Secrets, Cpuid, CpuidXf}
 use Rattle.igvm_headers.specs.declared.platform_kind.PlatformKind.{PlatformKind}
-use Rattle.igvm_headers.specs.declared.platform_kind.PlatformKind.TheVariants.{Tdx}
+use Rattle.igvm_headers.specs.declared.platform_kind.PlatformKind.TheVariants.{SevSnp, Tdx}
 use Rattle.igvm_headers.specs.declared.tag.Tag.{Tag}
 use Rattle.igvm_headers.specs.declared.tag.Tag.TheVariants as tag
 use Rattle.directive_rules.specs.Tags.{tag_of}
@@ -21,21 +21,29 @@ use Rattle.launch_platform.specs.Commands.{context_of}
 use Rattle.image_loader.specs.FilledAreas.{filled_page}
 use Rattle.image_loader.specs.Loads.{Load, areas_in, directives}
 
--- A page that is placed: its guest physical address, its bytes, how it enters the launch, and whether its bytes are
--- measured by `extend`.
+-- A page that is placed: its guest physical address, its bytes, the tag by which it is added to the launch, if it is,
+-- and whether its bytes are measured by `extend`.
 pub record PlacedPage : Type 0 where
   pub gpa : ℕ
   pub page : List ℕ
-  pub tag : Tag
+  pub tag : Option Tag
   pub extended : Bool
 
 -- the page of these four
-abbrev pub page_with : ℕ → List ℕ → Tag → Bool → PlacedPage
+abbrev pub page_with : ℕ → List ℕ → Option Tag → Bool → PlacedPage
 page_with gpa page tag extended = record { gpa = gpa; page = page; tag = tag; extended = extended }
 
 -- it as an entry of a machine
 abbrev pub entry_of : PlacedPage → machine.Entry
-entry_of q = record { gpa = q.gpa; page = q.page; tag = Some q.tag; extended = q.extended }
+entry_of q = record { gpa = q.gpa; page = q.page; tag = q.tag; extended = q.extended }
+
+-- The tag by which a page is added. SEV-SNP and TDX are told of each page; other platforms only of those whose bytes are
+-- measured, and a page that is just placed is in the guest, too.
+abbrev pub added_by : PlatformKind → Tag → Option Tag
+added_by SevSnp tag = Some tag
+added_by Tdx tag = Some tag
+added_by _ tag.Normal = Some tag.Normal
+added_by _ tag = None
 
 -- TDX measures the bytes of normal pages by `extend`
 abbrev pub is_extended : PlatformKind → Tag → Bool
@@ -62,8 +70,8 @@ page_bytes host area_page _ content k = []
 -- page k of a header that has a tag
 abbrev pub page_at : Load → (ℕ → ℕ → List ℕ) → PlacedHeader → Tag → ℕ → PlacedPage
 page_at load area_page p tag k =
-    page_with (gpa_of p.header + 4096 * k) (page_bytes load.host area_page p.header p.content k) tag
-    (is_extended load.platform.kind tag)
+    page_with (gpa_of p.header + 4096 * k) (page_bytes load.host area_page p.header p.content k)
+    (added_by load.platform.kind tag) (is_extended load.platform.kind tag)
 
 -- so many pages in rising order, where the header has a tag
 abbrev pub tagged_pages : Load → (ℕ → ℕ → List ℕ) → PlacedHeader → Option Tag → ℕ → List PlacedPage

@@ -24,7 +24,6 @@ pub record FitsAPlan (load : Load) : Type 0 where
 -- An image that fits, with room for its pages and contexts, its ID block, and room for its areas, none of which
 -- is declared yet.
 pub record IsReady (load : Load) (space : Space) (room added : ℕ) (id : Option IdWanted) : Type 0 where
-  pub digest : HasDigest load.platform.kind
   pub fits : FitsAPlan load
   pub undeclared : space.areas ≡ []
   pub total : space.total ≡ sum_by declared_bytes (headers_in (directives load))

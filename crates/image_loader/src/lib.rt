@@ -3,8 +3,11 @@
 
 mod answers;
 mod area_laws;
+mod carrier;
 mod ending;
 mod headers;
+mod judged;
+mod launch_carrier;
 pub mod laws;
 mod loading;
 mod page_laws;
@@ -16,5 +19,7 @@ mod step_laws;
 mod tests;
 
 pub use answers::{ExecuteRefusal, LoadAnswer, PrepareRefusal};
+pub use carrier::Carrier;
+pub use judged::{Judged, carry, judge};
 pub use loading::execute;
 pub use prepared::{Prepared, prepare};

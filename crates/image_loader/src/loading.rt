@@ -4,7 +4,8 @@ ghost use Rattle.igvm_headers.specs.FaultCounts.{Rose};
 ghost use Rattle.image_loader.specs.Loading.{HoldsImage, EndsBy, IsStopped};
 
 use crate::ending::{begin, end};
-use crate::headers::carry_all;
+use crate::judged::carry;
+use crate::launch_carrier::LaunchCarrier;
 use crate::laws::{commands_agree, commands_place, counts_suffice};
 use crate::{ExecuteRefusal, LoadAnswer, Prepared};
 use launch_platform::{Launch, Phase};
@@ -32,18 +33,19 @@ pub fn execute<L: Launch>(
     commands_agree();
     commands_place();
     counts_suffice();
-    let source = prepared.source;
+    let judged = prepared.judged;
+    let id = judged.wanted();
     match begin(
         machine,
-        source.platform.kind,
-        prepared.pages,
-        prepared.contexts,
+        judged.platform().kind,
+        judged.pages(),
+        judged.contexts(),
     ) {
         Ok(()) => {}
         Err(refusal) => return Err(refusal),
     }
-    match carry_all(machine, &source, prepared.areas) {
-        Ok(()) => end(machine, prepared.id),
+    match carry::<L, LaunchCarrier>(judged, machine) {
+        Ok(()) => end(machine, id),
         Err(_) => Err(ExecuteRefusal::Launch),
     }
 }

@@ -10,3 +10,4 @@ mod images;
 mod misfits;
 mod native_zero;
 mod pages;
+mod sev;

@@ -17,6 +17,12 @@ pub(crate) const SNP_2: &[u8] = b"\x01\0\0\0\x10\0\0\0\x02\0\0\0\0\x02\x01\0\0\0
 /// A platform with no launch, under mask 4.
 pub(crate) const NATIVE: &[u8] = b"\x01\0\0\0\x10\0\0\0\x04\0\0\0\0\0\x01\0\0\0\0\0\0\0\0\0";
 
+/// SEV under mask 1.
+pub(crate) const SEV: &[u8] = b"\x01\0\0\0\x10\0\0\0\x01\0\0\0\0\x04\x01\0\0\0\0\0\0\0\0\0";
+
+/// SEV-ES under mask 2.
+pub(crate) const SEV_ES: &[u8] = b"\x01\0\0\0\x10\0\0\0\x02\0\0\0\0\x05\x01\0\0\0\0\0\0\0\0\0";
+
 /// A page of zeros at 0x1000.
 pub(crate) const PAGE: &[u8] =
     b"\x02\x03\0\0\x18\0\0\0\0\x10\0\0\0\0\0\0\x03\0\0\0\0\0\0\0\0\0\0\0\0\0\0\0";

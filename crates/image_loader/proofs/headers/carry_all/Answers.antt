@@ -8,20 +8,20 @@ use Rattle.image_loader.proofs.headers.carry_all.Goals as goal
 
 pub headers-init : goal.headers-init
 headers-init g c =
-    carries_none g.L.Launch (load_in c.args.source.now) _ c.args.areas c.requires.fits c.args.machine.now
+    carries_none g.C.Carrier (load_in c.args.source.now) _ c.args.areas c.requires.fits c.args.machine.now
     (sym (c.into_iter-placed-iterator.ensures.into_iter_gives ∙ c.headers-placed-items.ensures.placed))
     c.requires.undeclared c.requires.room c.requires.begun c.requires.pages c.requires.contexts
 
 pub put-requires : goal.put-requires
 put-requires g c =
-    let at = at_header c.next_is_ready.ensures.fits c.next_is_ready.ensures.filled g.L.Launch (load_in c.args.source.now)
+    let at = at_header c.next_is_ready.ensures.fits c.next_is_ready.ensures.filled g.C.Carrier (load_in c.args.source.now)
     _ _ (placed_view c.in-Some.placed) c.headers.areas c.args.machine.now c.headers.machine c.headers.invariant
-    c.in-Some.ensures.steps c.fixed-fixed.ensures.accepted c.requires.digest (sym c.applies.ensures ∙ c.if-applies.true)
+    c.in-Some.ensures.steps c.fixed-fixed.ensures.accepted (sym c.applies.ensures ∙ c.if-applies.true)
     (c.pages_fit.ensures.numbers _ c.fixed-fixed.ensures.bytes) in
     record {
       loading = c.headers.invariant.loading;
       kind = c.headers.invariant.kind;
-      digest = c.requires.digest;
+      kinds = c.requires.kinds;
       fits = at.fits;
       pages = at.room.pages;
       contexts = at.room.contexts;
@@ -29,12 +29,12 @@ put-requires g c =
 
 pub returns-in_err-put-clause-stopped : goal.returns-in_err-put-clause-stopped
 returns-in_err-put-clause-stopped g c =
-    let at = at_header c.next_is_ready.ensures.fits c.next_is_ready.ensures.filled g.L.Launch (load_in c.args.source.now)
+    let at = at_header c.next_is_ready.ensures.fits c.next_is_ready.ensures.filled g.C.Carrier (load_in c.args.source.now)
     _ _ (placed_view c.in-Some.placed) c.headers.areas c.args.machine.now c.headers.machine c.headers.invariant
-    c.in-Some.ensures.steps c.fixed-fixed.ensures.accepted c.requires.digest (sym c.applies.ensures ∙ c.if-applies.true)
+    c.in-Some.ensures.steps c.fixed-fixed.ensures.accepted (sym c.applies.ensures ∙ c.if-applies.true)
     (c.pages_fit.ensures.numbers _ c.fixed-fixed.ensures.bytes) in
     on_err _
-    (carries_stopped g.L.Launch (load_in c.args.source.now) _ _ (placed_view c.in-Some.placed) c.headers.areas
+    (carries_stopped g.C.Carrier (load_in c.args.source.now) _ _ (placed_view c.in-Some.placed) c.headers.areas
     c.args.machine.now c.headers.machine c.put.new.machine c.headers.invariant c.in-Some.ensures.steps
     (sym c.applies.ensures ∙ c.if-applies.true)
     at.filled c.in_err-put.ensures.stopped)
@@ -44,22 +44,22 @@ same-areas g c = refl
 
 pub tell-requires : goal.tell-requires
 tell-requires g c =
-    let at = at_header c.next_is_ready.ensures.fits c.next_is_ready.ensures.filled g.L.Launch (load_in c.args.source.now)
+    let at = at_header c.next_is_ready.ensures.fits c.next_is_ready.ensures.filled g.C.Carrier (load_in c.args.source.now)
     _ _ (placed_view c.in-Some.placed) c.headers.areas c.args.machine.now c.headers.machine c.headers.invariant
-    c.in-Some.ensures.steps c.fixed-fixed.ensures.accepted c.requires.digest (sym c.applies.ensures ∙ c.if-applies.true)
+    c.in-Some.ensures.steps c.fixed-fixed.ensures.accepted (sym c.applies.ensures ∙ c.if-applies.true)
     (c.pages_fit.ensures.numbers _ c.fixed-fixed.ensures.bytes) in
     at.fits.areas
 
 pub headers-preserved-then-applies : goal.headers-preserved-then-applies
 headers-preserved-then-applies g c =
-    let at = at_header c.next_is_ready.ensures.fits c.next_is_ready.ensures.filled g.L.Launch (load_in c.args.source.now)
+    let at = at_header c.next_is_ready.ensures.fits c.next_is_ready.ensures.filled g.C.Carrier (load_in c.args.source.now)
     _ _ (placed_view c.in-Some.placed) c.headers.areas c.args.machine.now c.headers.machine c.headers.invariant
-    c.in-Some.ensures.steps c.fixed-fixed.ensures.accepted c.requires.digest (sym c.applies.ensures ∙ c.if-applies.true)
+    c.in-Some.ensures.steps c.fixed-fixed.ensures.accepted (sym c.applies.ensures ∙ c.if-applies.true)
     (c.pages_fit.ensures.numbers _ c.fixed-fixed.ensures.bytes) in
     let before = headers_for c.args.source.now.platform.mask c.headers.invariant.done in
     let p = placed_view c.in-Some.placed in
-    let s = g.L.Launch.state c.headers.machine in
-    carries_more g.L.Launch (load_in c.args.source.now) _ _ p c.headers.areas c.tell.new.areas c.args.machine.now
+    let s = g.C.Carrier.state c.headers.machine in
+    carries_more g.C.Carrier (load_in c.args.source.now) _ _ p c.headers.areas c.tell.new.areas c.args.machine.now
     c.headers.machine c.put.new.machine c.headers.invariant c.in-Some.ensures.steps
     (sym c.applies.ensures ∙ c.if-applies.true) at.filled
     (c.next_is_done.ensures.areas (load_in c.args.source.now) before p c.headers.areas s c.headers.invariant.areas at.fits)
@@ -68,10 +68,10 @@ headers-preserved-then-applies g c =
 
 pub headers-preserved : goal.headers-preserved
 headers-preserved g c =
-    carries_past g.L.Launch (load_in c.args.source.now) _ _ (placed_view c.in-Some.placed) c.headers.areas
+    carries_past g.C.Carrier (load_in c.args.source.now) _ _ (placed_view c.in-Some.placed) c.headers.areas
     c.args.machine.now c.headers.machine c.headers.invariant c.in-Some.ensures.steps
     (sym c.applies.ensures ∙ c.if-applies.false)
 
 pub returns-clause-done : goal.returns-clause-done
 returns-clause-done g c =
-    carries_all g.L.Launch (load_in c.args.source.now) _ c.headers.areas c.args.machine.now c.headers.machine c.headers.invariant c.in-None.ensures.steps.0
+    carries_all g.C.Carrier (load_in c.args.source.now) _ c.headers.areas c.args.machine.now c.headers.machine c.headers.invariant c.in-None.ensures.steps.0

@@ -15,7 +15,7 @@ place_pages-requires-clause-spare g c =
     let p = placed_view c.args.placed.now in
     let count = c.placed_pages-count in
     let same = some_pages load area_page p c.in-Some.tag count.result (sym c.in-Some.ensures) count.ensures.value in
-    subst (λ n. n ≤ (g.L.Launch.spares c.args.machine.now).pages)
+    subst (λ n. n ≤ (g.C.Carrier.spares c.args.machine.now).pages)
     (sym (length_row (page_at load area_page p c.in-Some.tag) count.result (header_pages load area_page p) same))
     c.requires.spare
 
@@ -26,7 +26,7 @@ place_pages-requires-clause-fresh g c =
     let p = placed_view c.args.placed.now in
     let count = c.placed_pages-count in
     let same = some_pages load area_page p c.in-Some.tag count.result (sym c.in-Some.ensures) count.ensures.value in
-    subst (AreFresh (g.L.Launch.state c.args.machine.now).entries) (sym same) c.requires.fresh
+    subst (AreFresh (g.C.Carrier.state c.args.machine.now).entries) (sym same) c.requires.fresh
 
 pub returns-in-Some-clause-done : goal.returns-in-Some-clause-done
 returns-in-Some-clause-done g c =
@@ -37,7 +37,7 @@ returns-in-Some-clause-done g c =
     let page : ℕ → PlacedPage = page_at load area_page p c.in-Some.tag in
     let same = some_pages load area_page p c.in-Some.tag count.result (sym c.in-Some.ensures) count.ensures.value in
     on_ok_weaker c.place_pages.result
-    (did_row g.L.Launch _ page count.result (header_pages load area_page p) _ _ same)
+    (did_row g.C.Carrier _ page count.result (header_pages load area_page p) _ _ same)
     c.place_pages.ensures.done
 
 pub returns-in-Some-clause-stopped : goal.returns-in-Some-clause-stopped
@@ -48,12 +48,12 @@ returns-in-Some-clause-stopped g c =
     let count = c.placed_pages-count in
     let same = some_pages load area_page p c.in-Some.tag count.result (sym c.in-Some.ensures) count.ensures.value in
     let old = c.args.machine.now in
-    let slot = length (g.L.Launch.state old).entries in
+    let slot = length (g.C.Carrier.state old).entries in
     on_err_weaker c.place_pages.result
-    (subst (λ qs. Stopped g.L.Launch (pages_commands slot qs) old c.place_pages.new.machine) same)
+    (subst (λ qs. Stopped g.C.Carrier (pages_commands slot qs) old c.place_pages.new.machine) same)
     c.place_pages.ensures.stopped
 
 pub returns-in-None-clause-done : goal.returns-in-None-clause-done
 returns-in-None-clause-done g c =
     let p = placed_view c.args.placed.now in
-    did_no_pages g.L.Launch _ (load_in c.args.source.now) (page_in c.args.areas.now) p _ (sym c.in-None.ensures)
+    did_no_pages g.C.Carrier _ (load_in c.args.source.now) (page_in c.args.areas.now) p _ (sym c.in-None.ensures)

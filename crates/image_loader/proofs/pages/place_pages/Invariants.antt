@@ -9,5 +9,5 @@ use Rattle.image_loader.proofs.pages.place_pages.Given as goal
 -- the first k pages are placed
 abbrev pub invariant-pages : goal.invariant-pages
 invariant-pages g l =
-    let page = page_at (load_in l.source) (page_in l.areas) (placed_view l.placed) l.tag in
-    Placing g.L.Launch (row page l.count) l.k l.fn.machine l.machine
+    let page = page_at (load_in l.source) (page_in l.areas) (placed_view l.placed) l.fn.tag in
+    Placing g.C.Carrier (row page l.count) l.k l.fn.machine l.machine
