@@ -1,0 +1,4 @@
+pub mod SevAgreement
+pub mod SevSteps
+pub mod CutShort
+pub mod SevEnds

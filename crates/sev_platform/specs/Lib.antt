@@ -1,0 +1,9 @@
+pub mod SevMachine
+pub mod SevCommands
+pub mod SevViews
+pub mod SevPages
+pub mod SevMemMachine
+pub use Rattle.launch_platform.specs.Machine
+pub use Rattle.sha2.specs.Sha256
+pub use Rattle.sha2.specs.Hashers
+pub use Rattle.igvm_headers.specs.FaultCounts
