@@ -4,13 +4,48 @@ use Rattle.std.specs.Prelude.{◌&&◌, codes, if◌then◌else◌}
 use Rattle.std.specs.Option.{option_map}
 use Rattle.std.specs.Fmt.{decimal}
 use Rattle.std.proofs.lemmas.Option.{cond_some}
-use Rattle.igvm_words.specs.Words.{Job, job_of, is_text, is_file_name, number_of}
-use Rattle.further_words.specs.FurtherWords.{FurtherJob, VmsaBuild, VmsaPrint, BuildElf, further_of, vmsa_build_job, vmsa_print_job, build_elf_job}
+use Rattle.igvm_words.specs.Words.{Job, job_of, PlatformChoice, choice_text, is_text, is_file_name, number_of}
+use Rattle.further_words.specs.FurtherWords.{FurtherJob, SevMeasure, SevLoad, VmsaBuild, VmsaPrint, BuildElf, further_of, sev_choice_of, sev_measure_job, sev_load_job, vmsa_build_job, vmsa_print_job, build_elf_job}
 use Rattle.further_words.specs.WordsOfFurther.{IsFurther, further_words, MeansFurther}
 use Rattle.further_words.proofs.TestLemmas.{both_left, both_right, text_same, taken_if, mapped}
 use Rattle.further_words.proofs.NumberWords.{WordsOfJobs, number_word, number_back}
+use Rattle.further_words.proofs.SevChoiceWords.{sev_word, sev_back}
 
 -- ---- from the words to the job
+
+sev_measure_forth : WordsOfJobs → (words : List (List ℕ)) (job : FurtherJob) → sev_measure_job words ≡ Some job → MeansFurther (codes "sev-measure" ∷ words) job
+sev_measure_forth words_mean [] job h = cc
+sev_measure_forth words_mean (file ∷ []) job h = cc
+sev_measure_forth words_mean (file ∷ option ∷ []) job h = cc
+sev_measure_forth words_mean (file ∷ option ∷ platform ∷ []) job h =
+    let t = taken_if _ _ job h in
+    let m = mapped (λ wanted. SevMeasure file wanted) (sev_choice_of platform) job t.1 in
+    let p = sev_word words_mean platform m.0 m.1 in
+    let o = text_same option (codes "--platform") (both_right (is_file_name file) _ t.0) in
+    subst (λ j. MeansFurther (codes "sev-measure" ∷ file ∷ option ∷ platform ∷ []) j) m.2
+    (record {
+      possible = (both_left (is_file_name file) _ t.0, p.1);
+      same = ap (λ w. codes "sev-measure" ∷ file ∷ w ∷ platform ∷ []) o ∙ ap (λ w. codes "sev-measure" ∷ file ∷ codes "--platform" ∷ w ∷ []) p.0;
+    })
+sev_measure_forth words_mean (file ∷ option ∷ platform ∷ word ∷ words) job h = cc
+
+sev_load_forth : WordsOfJobs → (words : List (List ℕ)) (job : FurtherJob) → sev_load_job words ≡ Some job → MeansFurther (codes "sev-load" ∷ words) job
+sev_load_forth words_mean [] job h = cc
+sev_load_forth words_mean (file ∷ []) job h = cc
+sev_load_forth words_mean (file ∷ host ∷ []) job h = cc
+sev_load_forth words_mean (file ∷ host ∷ option ∷ []) job h = cc
+sev_load_forth words_mean (file ∷ host ∷ option ∷ platform ∷ []) job h =
+    let t = taken_if _ _ job h in
+    let files = both_left (is_file_name file && is_file_name host) _ t.0 in
+    let m = mapped (λ wanted. SevLoad (record { file = file; host = host; wanted = wanted })) (sev_choice_of platform) job t.1 in
+    let p = sev_word words_mean platform m.0 m.1 in
+    let o = text_same option (codes "--platform") (both_right (is_file_name file && is_file_name host) _ t.0) in
+    subst (λ j. MeansFurther (codes "sev-load" ∷ file ∷ host ∷ option ∷ platform ∷ []) j) m.2
+    (record {
+      possible = (both_left (is_file_name file) _ files, both_right (is_file_name file) _ files, p.1);
+      same = ap (λ w. codes "sev-load" ∷ file ∷ host ∷ w ∷ platform ∷ []) o ∙ ap (λ w. codes "sev-load" ∷ file ∷ host ∷ codes "--platform" ∷ w ∷ []) p.0;
+    })
+sev_load_forth words_mean (file ∷ host ∷ option ∷ platform ∷ word ∷ words) job h = cc
 
 vmsa_build_forth : (words : List (List ℕ)) (job : FurtherJob) → vmsa_build_job words ≡ Some job → MeansFurther (codes "vmsa-build" ∷ words) job
 vmsa_build_forth [] job h = cc
@@ -59,14 +94,23 @@ forth : WordsOfJobs → (words : List (List ℕ)) (job : FurtherJob) → further
 unfolding further_of
 forth words_mean [] job h = cc
 forth words_mean (command ∷ words) job h =
-    by_name (codes "vmsa-build") command words _ _ job (vmsa_build_forth words job)
+    by_name (codes "sev-measure") command words _ _ job (sev_measure_forth words_mean words job)
+    (by_name (codes "sev-load") command words _ _ job (sev_load_forth words_mean words job)
+    (by_name (codes "vmsa-build") command words _ _ job (vmsa_build_forth words job)
     (by_name (codes "vmsa-print") command words _ _ job (vmsa_print_forth words job)
-    (by_name (codes "build-elf") command words _ _ job (build_elf_forth words_mean words job) (λ h. cc))) h
+    (by_name (codes "build-elf") command words _ _ job (build_elf_forth words_mean words job) (λ h. cc))))) h
 
 -- ---- from the job to its words
 
 back : WordsOfJobs → (job : FurtherJob) → IsFurther job → further_of (further_words job) ≡ Some job
 unfolding further_of
+back words_mean (SevMeasure file wanted) h =
+    let asked = λ (wanted : Option PlatformChoice). option_map (λ wanted. SevMeasure file wanted) wanted in
+    ap (λ b. if b && true then asked (sev_choice_of (choice_text wanted)) else None) h.0 ∙ ap asked (sev_back words_mean wanted h.1)
+back words_mean (SevLoad words) h =
+    let asked = λ (wanted : Option PlatformChoice). option_map (λ wanted. SevLoad (record words { wanted = wanted })) wanted in
+    let found = λ (b : Bool). if b then asked (sev_choice_of (choice_text words.wanted)) else None in
+    ap (λ b. found (b && is_file_name words.host && true)) h.0 ∙ ap (λ b. found (b && true)) h.1 ∙ ap asked (sev_back words_mean words.wanted h.2)
 back words_mean (VmsaBuild json target) h =
     ap (λ b. if b && is_file_name target then Some (VmsaBuild json target) else None) h.0
     ∙ ap (λ b. if b then Some (VmsaBuild json target) else None) h.1
@@ -84,6 +128,8 @@ words_mean_further words_mean words job = (forth words_mean words job, λ m. ap 
 
 no_first : (job : FurtherJob) → job_of (further_words job) ≡ None
 unfolding job_of
+no_first (SevMeasure file wanted) = refl
+no_first (SevLoad words) = refl
 no_first (VmsaBuild json target) = refl
 no_first (VmsaPrint file) = refl
 no_first (BuildElf words) = refl

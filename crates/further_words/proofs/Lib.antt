@@ -1,3 +1,5 @@
 mod TestLemmas
+mod CommandLemmas
 mod NumberWords
+mod SevChoiceWords
 mod FurtherLemmas

@@ -15,7 +15,7 @@ WordsOfJobs = (words : List (List ℕ)) (job : Job) → (job_of words ≡ Some j
 -- ---- a number as a platform
 
 -- a text that is no number is not the word of one
-other_text : (text word : List ℕ) (n : ℕ) → number_of text ≡ None → number_of word ≡ Some n → is_text word text ≡ false
+pub other_text : (text word : List ℕ) (n : ℕ) → number_of text ≡ None → number_of word ≡ Some n → is_text word text ≡ false
 other_text text word n none some = cases (is_text word text) refl
   where
     cases : (b : Bool) → is_text word text ≡ b → b ≡ false

@@ -1,7 +1,9 @@
 -- Which words ask for which further job, and which for a job of any command.
 use Rattle.std.specs.Prelude.{ℕ, List, [], ◌∷◌, ◌&&◌, codes, if◌then◌else◌, Option, Some, None}
 use Rattle.std.specs.Option.{option_map}
-use Rattle.igvm_words.specs.Words.{Job, job_of, is_text, is_file_name, number_of}
+use Rattle.igvm_headers.specs.declared.platform_kind.PlatformKind.TheVariants.{Sev, SevEs}
+use Rattle.igvm_words.specs.Words.{Job, job_of, PlatformChoice, Numbered, is_text, is_file_name, number_of}
+use Rattle.igvm_words.specs.Words as words
 
 -- what an image with the pages of an ELF file is built of
 pub record ElfWords : Type 0 where
@@ -10,8 +12,16 @@ pub record ElfWords : Type 0 where
   pub mask : ℕ
   pub target : List ℕ
 
+-- what is loaded for which SEV or SEV-ES platform, and on which host
+pub record SevLoadWords : Type 0 where
+  pub file : List ℕ
+  pub host : List ℕ
+  pub wanted : PlatformChoice
+
 -- what the program is asked to do, beside its first jobs
 pub data FurtherJob : Type 0 where
+  SevMeasure : (file : List ℕ) (wanted : PlatformChoice) → FurtherJob
+  SevLoad : (words : SevLoadWords) → FurtherJob
   VmsaBuild : (json target : List ℕ) → FurtherJob
   VmsaPrint : (file : List ℕ) → FurtherJob
   BuildElf : (words : ElfWords) → FurtherJob
@@ -21,7 +31,27 @@ pub data AnyJob : Type 0 where
   First : (job : Job) → AnyJob
   Further : (job : FurtherJob) → AnyJob
 
+-- the SEV or SEV-ES platform that a word asks for: the first of its kind, or the one of a number
+unfoldable pub sev_choice_of : List ℕ → Option PlatformChoice
+sev_choice_of word =
+    if is_text word (codes "sev") then Some (words.First Sev)
+    else (if is_text word (codes "sev_es") then Some (words.First SevEs) else option_map Numbered (number_of word))
+
 -- ---- further jobs
+
+-- `FILE --platform P`, and no option
+abbrev pub sev_measure_job : List (List ℕ) → Option FurtherJob
+sev_measure_job (file ∷ option ∷ platform ∷ []) =
+    if is_file_name file && is_text option (codes "--platform")
+    then option_map (λ wanted. SevMeasure file wanted) (sev_choice_of platform) else None
+sev_measure_job _ = None
+
+-- `FILE HOST --platform P`, and no option
+abbrev pub sev_load_job : List (List ℕ) → Option FurtherJob
+sev_load_job (file ∷ host ∷ option ∷ platform ∷ []) =
+    if is_file_name file && is_file_name host && is_text option (codes "--platform")
+    then option_map (λ wanted. SevLoad (record { file = file; host = host; wanted = wanted })) (sev_choice_of platform) else None
+sev_load_job _ = None
 
 -- `JSON OUT`
 abbrev pub vmsa_build_job : List (List ℕ) → Option FurtherJob
@@ -45,9 +75,11 @@ build_elf_job _ = None
 unfoldable pub further_of : List (List ℕ) → Option FurtherJob
 further_of [] = None
 further_of (command ∷ words) =
-    if is_text command (codes "vmsa-build") then vmsa_build_job words
+    if is_text command (codes "sev-measure") then sev_measure_job words
+    else (if is_text command (codes "sev-load") then sev_load_job words
+    else (if is_text command (codes "vmsa-build") then vmsa_build_job words
     else (if is_text command (codes "vmsa-print") then vmsa_print_job words
-    else (if is_text command (codes "build-elf") then build_elf_job words else None))
+    else (if is_text command (codes "build-elf") then build_elf_job words else None))))
 
 -- ---- jobs of any command
 

@@ -2,21 +2,45 @@
 ghost use Rattle.std.specs.Prelude.{◌≡◌, IfSome};
 ghost use Rattle.std.specs.Option.{option_map};
 ghost use Rattle.igvm_words.specs.JobView.{words_view};
-ghost use Rattle.further_words.specs.FurtherWords.{further_of, vmsa_build_job, vmsa_print_job, build_elf_job};
+ghost use Rattle.further_words.specs.FurtherWords.{further_of, sev_measure_job, sev_load_job, vmsa_build_job, vmsa_print_job, build_elf_job};
 ghost use Rattle.further_words.specs.WordsOfFurther.{IsFurther};
 ghost use Rattle.further_words.specs.FurtherView.{further_view};
 
-use igvm_words::{Words, is_file_name, is_text, number_of};
+use crate::sev_choice::sev_choice_of;
+use igvm_words::{PlatformChoice, Words, is_file_name, is_text, number_of};
 
 /// What the program is asked to do by a further command.
 #[derive(Clone, Copy)]
 pub enum FurtherJob<'a> {
+    /// `sev-measure FILE --platform P`
+    SevMeasure {
+        file: &'a str,
+        wanted: PlatformChoice,
+    },
+    /// `sev-load FILE HOST --platform P`
+    SevLoad(SevLoadWords<'a>),
     /// `vmsa-build JSON OUT`
-    VmsaBuild { json: &'a str, target: &'a str },
+    VmsaBuild {
+        json: &'a str,
+        target: &'a str,
+    },
     /// `vmsa-print FILE`
-    VmsaPrint { file: &'a str },
+    VmsaPrint {
+        file: &'a str,
+    },
     /// `build-elf LIST ELF MASK OUT`
     BuildElf(ElfWords<'a>),
+}
+
+/// What is loaded for which SEV or SEV-ES platform, and on which host.
+#[derive(Clone, Copy)]
+pub struct SevLoadWords<'a> {
+    /// The name of the image file.
+    pub file: &'a str,
+    /// The name of the host description.
+    pub host: &'a str,
+    /// The platform that is asked for.
+    pub wanted: PlatformChoice,
 }
 
 /// What an image with the pages of an ELF file is built of.
@@ -34,7 +58,6 @@ pub struct ElfWords<'a> {
 
 /// The further job that these words mean, if they mean one: `None` where they are those of another
 /// command, or of none.
-#[tactic(auto, unfolding(crate::specs::FurtherWords::further_of))]
 pub fn further_of(words: &Words) -> Option<FurtherJob<'_>>
     ensures meant { option_map further_view result ≡ further_of words.now }
     ensures possible { IfSome result (λ job. IsFurther (further_view job)) }
@@ -43,6 +66,12 @@ pub fn further_of(words: &Words) -> Option<FurtherJob<'_>>
         return None;
     };
     let command = command.as_str();
+    if is_text(command, "sev-measure") {
+        return sev_measure_job(rest);
+    }
+    if is_text(command, "sev-load") {
+        return sev_load_job(rest);
+    }
     if is_text(command, "vmsa-build") {
         return vmsa_build_job(rest);
     }
@@ -53,6 +82,38 @@ pub fn further_of(words: &Words) -> Option<FurtherJob<'_>>
         return build_elf_job(rest);
     }
     None
+}
+
+/// `FILE --platform P`, and no option.
+fn sev_measure_job(words: &[String]) -> Option<FurtherJob<'_>>
+    ensures meant { option_map further_view result ≡ sev_measure_job (words_view words.now) }
+    ensures possible { IfSome result (λ job. IsFurther (further_view job)) }
+{
+    let [file, option, platform] = words else {
+        return None;
+    };
+    let file = file.as_str();
+    if !(is_file_name(file) && is_text(option.as_str(), "--platform")) {
+        return None;
+    }
+    let wanted = sev_choice_of(platform.as_str())?;
+    Some(FurtherJob::SevMeasure { file, wanted })
+}
+
+/// `FILE HOST --platform P`, and no option.
+fn sev_load_job(words: &[String]) -> Option<FurtherJob<'_>>
+    ensures meant { option_map further_view result ≡ sev_load_job (words_view words.now) }
+    ensures possible { IfSome result (λ job. IsFurther (further_view job)) }
+{
+    let [file, host, option, platform] = words else {
+        return None;
+    };
+    let (file, host) = (file.as_str(), host.as_str());
+    if !(is_file_name(file) && is_file_name(host) && is_text(option.as_str(), "--platform")) {
+        return None;
+    }
+    let wanted = sev_choice_of(platform.as_str())?;
+    Some(FurtherJob::SevLoad(SevLoadWords { file, host, wanted }))
 }
 
 /// `JSON OUT`

@@ -3,8 +3,9 @@
 
 mod job;
 mod laws;
+mod sev_choice;
 #[cfg(test)]
 mod tests;
 
-pub use job::{ElfWords, FurtherJob, further_of};
+pub use job::{ElfWords, FurtherJob, SevLoadWords, further_of};
 pub use laws::{words_mean_one_job, words_of_a_further_job};

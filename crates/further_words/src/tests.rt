@@ -1,7 +1,7 @@
 //! Words and the further jobs that they mean, as the README of this crate lists them.
 use crate::{FurtherJob, further_of};
-use igvm_headers::Memory;
-use igvm_words::Words;
+use igvm_headers::{Memory, PlatformKind};
+use igvm_words::{PlatformChoice, Words};
 use std::alloc::Global;
 use std::test::Fail;
 
@@ -21,7 +21,12 @@ struct Asked<'a> {
     /// JSON, FILE or LIST.
     source: &'a str,
     elf: &'a str,
-    mask: Option<u32>,
+    /// HOST.
+    host: &'a str,
+    /// The kind of the platform.
+    kind: Option<PlatformKind>,
+    /// The number of the platform, or MASK.
+    number: Option<u32>,
     /// OUT.
     target: &'a str,
 }
@@ -30,12 +35,29 @@ const NOTHING: Asked<'static> = Asked {
     command: "",
     source: "",
     elf: "",
-    mask: None,
+    host: "",
+    kind: None,
+    number: None,
     target: "",
 };
 
 fn asked_by<'a>(job: &FurtherJob<'a>) -> Asked<'a> {
     match *job {
+        FurtherJob::SevMeasure { file, wanted } => Asked {
+            command: "sev-measure",
+            source: file,
+            kind: kind_of(wanted),
+            number: number_of(wanted),
+            ..NOTHING
+        },
+        FurtherJob::SevLoad(words) => Asked {
+            command: "sev-load",
+            source: words.file,
+            host: words.host,
+            kind: kind_of(words.wanted),
+            number: number_of(words.wanted),
+            ..NOTHING
+        },
         FurtherJob::VmsaBuild { json, target } => Asked {
             command: "vmsa-build",
             source: json,
@@ -51,14 +73,95 @@ fn asked_by<'a>(job: &FurtherJob<'a>) -> Asked<'a> {
             command: "build-elf",
             source: words.list,
             elf: words.elf,
-            mask: Some(words.mask),
+            number: Some(words.mask),
             target: words.target,
+            ..NOTHING
         },
     }
 }
 
+fn kind_of(wanted: PlatformChoice) -> Option<PlatformKind> {
+    match wanted {
+        PlatformChoice::First(kind) => Some(kind),
+        PlatformChoice::Numbered(_) => None,
+    }
+}
+
+fn number_of(wanted: PlatformChoice) -> Option<u32> {
+    match wanted {
+        PlatformChoice::First(_) => None,
+        PlatformChoice::Numbered(number) => Some(number),
+    }
+}
+
 /// Words that mean a further job.
-static JOBS: [(&str, Asked<'static>); 8] = [
+static JOBS: [(&str, Asked<'static>); 15] = [
+    (
+        "sev-measure FILE --platform sev",
+        Asked {
+            command: "sev-measure",
+            source: "FILE",
+            kind: Some(PlatformKind::Sev),
+            ..NOTHING
+        },
+    ),
+    (
+        "sev-measure ./-x --platform sev_es",
+        Asked {
+            command: "sev-measure",
+            source: "./-x",
+            kind: Some(PlatformKind::SevEs),
+            ..NOTHING
+        },
+    ),
+    (
+        "sev-measure FILE --platform 0",
+        Asked {
+            command: "sev-measure",
+            source: "FILE",
+            number: Some(0),
+            ..NOTHING
+        },
+    ),
+    (
+        "sev-measure FILE --platform 4294967295",
+        Asked {
+            command: "sev-measure",
+            source: "FILE",
+            number: Some(4294967295),
+            ..NOTHING
+        },
+    ),
+    (
+        "sev-load FILE HOST --platform sev",
+        Asked {
+            command: "sev-load",
+            source: "FILE",
+            host: "HOST",
+            kind: Some(PlatformKind::Sev),
+            ..NOTHING
+        },
+    ),
+    (
+        "sev-load ./-x FILE --platform sev_es",
+        Asked {
+            command: "sev-load",
+            source: "./-x",
+            host: "FILE",
+            kind: Some(PlatformKind::SevEs),
+            ..NOTHING
+        },
+    ),
+    (
+        "sev-load FILE FILE --platform 7",
+        Asked {
+            command: "sev-load",
+            source: "FILE",
+            host: "FILE",
+            number: Some(7),
+            ..NOTHING
+        },
+    ),
     (
         "vmsa-build JSON OUT",
         Asked {
@@ -99,8 +202,9 @@ static JOBS: [(&str, Asked<'static>); 8] = [
             command: "build-elf",
             source: "LIST",
             elf: "ELF",
-            mask: Some(1),
+            number: Some(1),
             target: "OUT",
+            ..NOTHING
         },
     ),
     (
@@ -109,8 +213,9 @@ static JOBS: [(&str, Asked<'static>); 8] = [
             command: "build-elf",
             source: "LIST",
             elf: "ELF",
-            mask: Some(0),
+            number: Some(0),
             target: "OUT",
+            ..NOTHING
         },
     ),
     (
@@ -119,8 +224,9 @@ static JOBS: [(&str, Asked<'static>); 8] = [
             command: "build-elf",
             source: "LIST",
             elf: "ELF",
-            mask: Some(4294967295),
+            number: Some(4294967295),
             target: "OUT",
+            ..NOTHING
         },
     ),
     (
@@ -129,8 +235,9 @@ static JOBS: [(&str, Asked<'static>); 8] = [
             command: "build-elf",
             source: "7",
             elf: "8",
-            mask: Some(9),
+            number: Some(9),
             target: "10",
+            ..NOTHING
         },
     ),
 ];
@@ -149,8 +256,44 @@ fn means_the_further_jobs(rt: HostRuntime) -> Result<(), Fail> {
 }
 
 /// Words that mean no further job.
-static OTHERS: [&str; 43] = [
+static OTHERS: [&str; 79] = [
     "build LIST OUT",
+    "sev-measure",
+    "sev-measure FILE",
+    "sev-measure FILE --platform",
+    "sev-measure FILE sev",
+    "sev-measure --platform sev",
+    "sev-measure --platform sev FILE",
+    "sev-measure -FILE --platform sev",
+    "sev-measure  --platform sev",
+    "sev-measure FILE --platform=sev",
+    "sev-measure FILE --Platform sev",
+    "sev-measure FILE --platform snp",
+    "sev-measure FILE --platform tdx",
+    "sev-measure FILE --platform SEV",
+    "sev-measure FILE --platform sev-es",
+    "sev-measure FILE --platform sev_e",
+    "sev-measure FILE --platform 00",
+    "sev-measure FILE --platform 4294967296",
+    "sev-measure FILE --platform sev --native-zero",
+    "sev_measure FILE --platform sev",
+    "sev-load",
+    "sev-load FILE HOST",
+    "sev-load FILE HOST --platform",
+    "sev-load FILE --platform sev",
+    "sev-load FILE --platform sev HOST",
+    "sev-load --platform sev FILE HOST",
+    "sev-load -FILE HOST --platform sev",
+    "sev-load FILE -HOST --platform sev",
+    "sev-load  HOST --platform sev",
+    "sev-load FILE  --platform sev",
+    "sev-load FILE HOST --platform snp",
+    "sev-load FILE HOST --platform 00",
+    "sev-load FILE HOST --Platform sev",
+    "sev-load FILE HOST --platform sev --native-zero",
+    "sev-load FILE HOST --platform sev --image OUT",
+    "sev_load FILE HOST --platform sev",
+    "sev-loa FILE HOST --platform sev",
     "vmsa-build",
     "vmsa-build JSON",
     "vmsa-build JSON OUT OUT",

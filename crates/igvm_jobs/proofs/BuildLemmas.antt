@@ -1,8 +1,7 @@
 -- How the steps of `build` end: its list is read, and its image is written.
-use Rattle.std.proofs.Common.{◌≡◌, ℕ, ◌≤◌, refl, sym, ap, inl, inr, List, length, Bool, true, false, Option, Some, None, IfSome}
+use Rattle.std.proofs.Common.{◌≡◌, ℕ, ◌≤◌, refl, sym, inl, inr, List, length, Bool, true, false, Option, Some, None, IfSome}
 use Rattle.std.specs.Prelude.{nat_lt, if◌then◌else◌}
 use Rattle.std.specs.FinMap as map
-use Rattle.std.specs.Option.{option_map}
 use Rattle.igvm_outside.specs.Files.{Files}
 use Rattle.igvm_outside.specs.declared.shelf.Shelf as shelves
 use Rattle.component_list.specs.Lists.{ImageParts}

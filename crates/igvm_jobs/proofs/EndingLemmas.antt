@@ -70,7 +70,7 @@ failing s o task shelf shelf' out out' machine outcome =
     record { shelf = ShelfFailed s task outcome shelf shelf'; output = OutFailed o task (s.given shelf') outcome out out'; machine = machine outcome }
 
 -- a task that words mean is no usage
-is_meant : {meant : Bool} → meant ≡ true → meant ≡ false → ⊥
+pub is_meant : {meant : Bool} → meant ≡ true → meant ≡ false → ⊥
 is_meant is is_not = cc
 
 -- the output's failure, beside those of a shelf and a machine
@@ -78,7 +78,7 @@ abbrev with_output : {O : Type 0} → sinks.Ghosts O → Task → ℕ → Outcom
 with_output o task given x out out' a m = record { shelf = a; output = OutFailed o task given x out out'; machine = m }
 
 -- what the end of a job keeps, by how it ended
-kept : {O E : Type 0} (o : sinks.Ghosts O) (e : sinks.Ghosts E) (task : Task) (x : Outcome) (given : ℕ) (ending : Result Ended Refusal) (a m : Type 0) (out out' : O) (err err' : E)
+pub kept : {O E : Type 0} (o : sinks.Ghosts O) (e : sinks.Ghosts E) (task : Task) (x : Outcome) (given : ℕ) (ending : Result Ended Refusal) (a m : Type 0) (out out' : O) (err err' : E)
     → EndIsTrue task given x ending (with_output o task given x out out' a m) → EndKeepsOutput o x ending out out' → EndIsPut e ending err err'
     → StatusIsTrue task given x (end_status ending) × (end_status ending ≡ is.Usage → ⊥) × OutputIsKept o x (end_status ending) out out'
     × ErrorTextIsPut e x (end_status ending) (with_output o task given x out out' a m) err err'
@@ -95,7 +95,7 @@ kept o e task x given (Err (Json text)) a m out out' err err' h k p = (inl (stat
 kept o e task x given (Err (Limit limit)) a m out out' err err' h k p = (inl (status_of_line h.0, h.1), (λ u. cc), k, line_of e h.0 p, (λ f. cc))
 
 -- what the end of a job and its line keep, whatever its machine's failure is
-pub keeps_under : {S O E : Type 0} {s : shelves.Ghosts S} {o : sinks.Ghosts O} {e : sinks.Ghosts E} {task : Task} (m : Outcome → Type 0) (ending : Result Ended Refusal)
+unfoldable pub keeps_under : {S O E : Type 0} {s : shelves.Ghosts S} {o : sinks.Ghosts O} {e : sinks.Ghosts E} {task : Task} (m : Outcome → Type 0) (ending : Result Ended Refusal)
     {shelf shelf' : S} {out out' : O} {err err' : E} → task.meant ≡ true
     → EndsUnder s o task (failing s o task shelf shelf' out out' m) ending shelf shelf' out out' → EndIsPut e ending err err'
     → KeepsUnder s o e task (failing s o task shelf shelf' out out' m) (end_status ending) shelf shelf' out out' err err'

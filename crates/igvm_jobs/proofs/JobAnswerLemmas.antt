@@ -67,12 +67,12 @@ told_decide s o e l task status shelf shelf' out out' err err' machine machine' 
 -- ---- what is put with a status
 
 -- a refusal's line
-line_put : {E : Type 0} (e : sinks.Ghosts E) (x : Outcome) (status : Status) (err err' : E) (failed : Failures) (st : Status) → status ≡ st → (ErrorTextIsPut e x st failed err err' → IsPut e x.err err err')
+pub line_put : {E : Type 0} (e : sinks.Ghosts E) (x : Outcome) (status : Status) (err err' : E) (failed : Failures) (st : Status) → status ≡ st → (ErrorTextIsPut e x st failed err err' → IsPut e x.err err err')
     → ErrorTextIsPut e x status failed err err' → IsPut e x.err err err'
 line_put e x status err err' failed st same put error = put (subst (λ (q : Status). ErrorTextIsPut e x q failed err err') same error)
 
 -- the text of a job that is done
-text_put : {O : Type 0} (o : sinks.Ghosts O) (x : Outcome) (status : Status) (out out' : O) → status ≡ is.Done → OutputIsKept o x status out out' → Gains o x.out out out'
+pub text_put : {O : Type 0} (o : sinks.Ghosts O) (x : Outcome) (status : Status) (out out' : O) → status ≡ is.Done → OutputIsKept o x status out out' → Gains o x.out out out'
 text_put o x status out out' same output = subst (λ (q : Status). OutputIsKept o x q out out') same output
 
 -- ---- jobs on one image file
@@ -104,7 +104,7 @@ unfolding bytes_outcome
 judged next bytes x same = by_size next bytes x _ refl same
 
 -- the outside or memory failed, or the file is refused, or an image of as many bytes as were given decides
-abbrev FileAnswer : (List ℕ → Outcome) → Status → ℕ → Outcome → (List ℕ → Type 0) → Type 0
+abbrev pub FileAnswer : (List ℕ → Outcome) → Status → ℕ → Outcome → (List ℕ → Type 0) → Type 0
 FileAnswer next status given x put =
     IsHalted status ⊎ IsFileRefused status given put ⊎ ((bytes : List ℕ) × IsImage bytes given × (x ≡ next bytes) × (status ≡ x.status))
 
@@ -127,7 +127,7 @@ of_judged e next status given x err err' failed bytes error same size (inr (inl 
 of_judged e next status given x err err' failed bytes error same size (inr (inr h)) =
     inr (inr (bytes, record { size = size; within = subst (λ n. n ≤ file_limit) size h.0; accepted = h.1 }, h.2, same))
 
-file_answer : {E : Type 0} (e : sinks.Ghosts E) (next : List ℕ → Outcome) (status : Status) (given : ℕ) (x : Outcome) (err err' : E) (failed : Failures)
+pub file_answer : {E : Type 0} (e : sinks.Ghosts E) (next : List ℕ → Outcome) (status : Status) (given : ℕ) (x : Outcome) (err err' : E) (failed : Failures)
     → ((status ≡ x.status) × IsOfBytes next given x) ⊎ (status ≡ is.Outside) ⊎ (status ≡ is.Memory) → ErrorTextIsPut e x status failed err err'
     → FileAnswer next status given x (λ text. IsPut e text err err')
 file_answer e next status given x err err' failed (inl h) error = of_judged e next status given x err err' failed h.1.0 error h.0 h.1.1 (judged next h.1.0 x h.1.2)

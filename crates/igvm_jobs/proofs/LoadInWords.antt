@@ -32,7 +32,7 @@ use Rattle.igvm_jobs.specs.JobAnswers.{measurement_of, HasNoDigest, IsMeasured, 
 -- ---- what is seen of an outcome
 
 -- what is put of an outcome, by its status
-abbrev Shown : (List ℕ → Type 0) → (List ℕ → Type 0) → Outcome → Status → Type 0
+abbrev pub Shown : (List ℕ → Type 0) → (List ℕ → Type 0) → Outcome → Status → Type 0
 Shown gains put x is.Done = gains x.out
 Shown gains put x is.NotFit = gains x.out
 Shown gains put x is.Usage = Unit
@@ -41,10 +41,10 @@ Shown gains put x is.Memory = Unit
 Shown gains put x _ = put x.err
 
 -- the status is the outcome's, and what belongs to it is put
-abbrev Seen : Status → (List ℕ → Type 0) → (List ℕ → Type 0) → Outcome → Type 0
+abbrev pub Seen : Status → (List ℕ → Type 0) → (List ℕ → Type 0) → Outcome → Type 0
 Seen status gains put x = (status ≡ x.status) × Shown gains put x x.status
 
-seen_as : (status : Status) (gains put : List ℕ → Type 0) (x y : Outcome) → x ≡ y → Seen status gains put x → Seen status gains put y
+pub seen_as : (status : Status) (gains put : List ℕ → Type 0) (x y : Outcome) → x ≡ y → Seen status gains put x → Seen status gains put y
 seen_as status gains put x y same seen = subst (Seen status gains put) same seen
 
 shown : {O E : Type 0} (o : sinks.Ghosts O) (e : sinks.Ghosts E) (x : Outcome) (failed : Failures) (out out' : O) (err err' : E) (status : Status)
@@ -56,7 +56,7 @@ shown o e x failed out out' err err' is.Outside output error = tt
 shown o e x failed out out' err err' is.Memory output error = tt
 shown o e x failed out out' err err' _ output error = error
 
-seen : {O E : Type 0} (o : sinks.Ghosts O) (e : sinks.Ghosts E) (x : Outcome) (failed : Failures) (out out' : O) (err err' : E) (status : Status) → status ≡ x.status
+pub seen : {O E : Type 0} (o : sinks.Ghosts O) (e : sinks.Ghosts E) (x : Outcome) (failed : Failures) (out out' : O) (err err' : E) (status : Status) → status ≡ x.status
     → OutputIsKept o x status out out' → ErrorTextIsPut e x status failed err err' → Seen status (λ text. Gains o text out out') (λ text. IsPut e text err err') x
 seen o e x failed out out' err err' status same output error =
     (same, subst (Shown (λ text. Gains o text out out') (λ text. IsPut e text err err') x) same (shown o e x failed out out' err err' status output error))

@@ -6,15 +6,16 @@ use directive_rules::{Misfit, Why};
 use igvm_headers::Digest;
 use line_buffer::LineBuffer;
 
-/// Adds the two lines that say what a machine was given, and its digest.
-pub fn push_loaded(text: &mut LineBuffer, pages: u32, contexts: u32, digest: &Digest)
-    requires { length text.old + 512 ≤ 16384 }
+/// Adds the two lines that say what a machine was given, and its digest, of at most 48 bytes.
+pub fn push_loaded(text: &mut LineBuffer, pages: u32, contexts: u32, digest: &[u8])
+    requires room { length text.old + 512 ≤ 16384 }
+    requires digest { length digest.now ≤ 48 }
     ensures { text.new ≡ text.old ++ load_text pages contexts digest.now }
 {
     text.number("loaded ", u64::from(pages));
     text.number(" pages, ", u64::from(contexts));
     text.push(b" contexts\n");
-    text.digits("digest ", digest.bytes());
+    text.digits("digest ", digest);
     text.push(b"\n");
 }
 

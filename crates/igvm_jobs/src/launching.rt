@@ -125,12 +125,12 @@ fn push_machine<L: Launch>(text: &mut LineBuffer, machine: &L)
         (length (L.state machine.now).contexts) digest }
 {
     if let Some(digest) = machine.digest() {
-        push_loaded(text, machine.entries(), machine.contexts(), &digest);
+        push_loaded(text, machine.entries(), machine.contexts(), digest.bytes());
     }
 }
 
 /// Puts why an image does not fit.
-fn put_misfit<O: Sink>(out: &mut O, misfit: &Misfit) -> Result<Ended, Refusal>
+pub fn put_misfit<O: Sink>(out: &mut O, misfit: &Misfit) -> Result<Ended, Refusal>
     ensures { PutsEnd O.Sink Ended.NotFit (misfit_text misfit.now) result out.old out.new }
 {
     let mut text = LineBuffer::new();

@@ -24,6 +24,8 @@ mod writing;
 pub use file_reading::read_file;
 pub use host_file::{described, read_description};
 pub use image_file::{judge, read_image};
+pub use launch_texts::push_loaded;
+pub use launching::put_misfit;
 pub use laws::{
     build_answers, load_agrees_with_measure, load_answers, load_is_told, make_answers,
     measure_answers, print_answers, told_files_decide,

@@ -1,5 +1,9 @@
 pub mod ShortFileLemmas
+pub mod SevLoadLemmas
+pub mod SevLaunchLemmas
+pub mod SevLoadAnswerLemmas
 pub mod FurtherTaskLemmas
+pub mod SevMeasureLemmas
 pub mod VmsaAnswerLemmas
 pub mod VmsaTextLemmas
 pub mod ElfLemmas

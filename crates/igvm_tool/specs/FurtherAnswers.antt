@@ -4,6 +4,19 @@
 use Rattle.std.specs.Prelude.{◌≡◌, ℕ, ◌+◌, ◌<◌, ◌≤◌, ◌⊎◌, List, length, codes, Option, Some, None, Result, Ok, Err}
 use Rattle.igvm_headers.specs.SpellingConditions.{AreBytes}
 use Rattle.igvm_outside.specs.Files.{Files, with_file}
+use Rattle.igvm_outside.specs.declared.sink.Sink as sinks
+use Rattle.platform_masks.specs.declared.platform.Platform.{Platform}
+use Rattle.igvm_image.specs.FileFault.{fault_of}
+use Rattle.host_set.specs.declared.range.PlanRange.{PlanRange}
+use Rattle.host_set.specs.Hosts.{HostValues}
+use Rattle.directive_rules.specs.declared.misfit.Misfit.{Misfit}
+use Rattle.directive_rules.specs.FirstMisfit.{first_misfit}
+use Rattle.launch_platform.specs.declared.phase.Phase.TheVariants as phase
+use Rattle.image_loader.specs.PlacedPages.{contexts}
+use Rattle.sev_chain.specs.SevBytes.{sev_digest_of}
+use Rattle.sev_platform.specs.declared.sev_launch.SevLaunch as sevs
+use Rattle.sev_loader.specs.SevPlaced.{sev_load_of, sev_placed}
+use Rattle.igvm_words.specs.Words.{PlatformChoice}
 use Rattle.component_list.specs.Lists.{ImageParts, IsList}
 use Rattle.elf_pages.specs.declared.fault.ElfFault.{ElfFault}
 use Rattle.elf_pages.specs.Faults.{elf_fault}
@@ -19,12 +32,79 @@ use Rattle.vmsa_page.specs.Texts.{vmsa_json}
 use Rattle.vmsa_page.specs.Vmsas.{VmsaParts}
 use Rattle.igvm_jobs.specs.declared.status.Status.{Status}
 use Rattle.igvm_jobs.specs.declared.status.Status.TheVariants as is
-use Rattle.igvm_jobs.specs.Texts.{long_vmsa_text, not_json_text, field_text, built_text, long_elf_text, many_pages_text}
+use Rattle.igvm_jobs.specs.Texts.{no_platform_text, no_digest_text, digest_text, load_text, misfit_text, long_vmsa_text, not_json_text, field_text, built_text, long_elf_text, many_pages_text}
 use Rattle.igvm_jobs.specs.BuildJob.{image_limit}
-use Rattle.igvm_jobs.specs.JobAnswers.{IsHalted, IsJsonText, IsLimitText}
+use Rattle.igvm_jobs.specs.ImageFiles.{file_limit}
+use Rattle.igvm_jobs.specs.MeasureJob.{wanted_platform}
+use Rattle.igvm_jobs.specs.Clauses.{Gains}
+use Rattle.igvm_jobs.specs.JobAnswers.{IsHalted, IsImage, IsFileRefused, IsHostText, IsHostRefused, IsJsonText, IsLimitText}
 use Rattle.igvm_tool.specs.VmsaJobs.{text_limit, page_limit}
 use Rattle.igvm_tool.specs.ElfTexts.{elf_text}
 use Rattle.igvm_tool.specs.BuildElfJob.{elf_limit, pages_limit}
+
+-- ---- `sev-measure`
+
+-- an image has no platform that is asked for, or its kind is neither SEV nor SEV-ES
+abbrev pub HasNoSevDigest : PlatformChoice → List ℕ → (List ℕ → Type 0) → Type 0
+HasNoSevDigest wanted bytes put =
+    ((wanted_platform bytes wanted ≡ None) × put (no_platform_text wanted))
+    ⊎ ((platform : Platform) × (wanted_platform bytes wanted ≡ Some platform)
+    × (sev_digest_of bytes platform ≡ None) × put (no_digest_text platform.kind))
+
+-- an image has this digest for the SEV or SEV-ES platform that is asked for
+abbrev pub IsSevDigest : PlatformChoice → List ℕ → List ℕ → Type 0
+IsSevDigest wanted bytes digest =
+    (platform : Platform) × (wanted_platform bytes wanted ≡ Some platform) × (sev_digest_of bytes platform ≡ Some digest)
+
+-- `sev-measure`: FILE is refused, or its image has no such digest, or the digest is put
+abbrev pub SevMeasureAnswers : PlatformChoice → Status → ℕ → (List ℕ → Type 0) → (List ℕ → Type 0) → Type 0
+SevMeasureAnswers wanted status given gains put =
+    IsHalted status ⊎ IsFileRefused status given put
+    ⊎ ((status ≡ is.Platform) × ((bytes : List ℕ) × IsImage bytes given × HasNoSevDigest wanted bytes put))
+    ⊎ ((status ≡ is.Done)
+    × ((bytes : List ℕ) × (digest : List ℕ) × IsImage bytes given × IsSevDigest wanted bytes digest × gains (digest_text digest)))
+
+-- ---- `sev-load`
+
+-- an image that the reader accepts, its SEV or SEV-ES platform that is asked for, and its digest for that
+pub record IsSevMeasured (wanted : PlatformChoice) (bytes : List ℕ) (platform : Platform) (digest : List ℕ) : Type 0 where
+  pub within : length bytes ≤ file_limit
+  pub accepted : fault_of bytes ≡ None
+  pub named : wanted_platform bytes wanted ≡ Some platform
+  pub found : sev_digest_of bytes platform ≡ Some digest
+
+-- the image has a misfit on the host that is described, and the first is put; or it has none, and it is put how much was
+-- loaded, and with which digest
+abbrev pub IsSevJudged : List ℕ → Platform → List ℕ → Status → List PlanRange → HostValues → (List ℕ → Type 0) → Type 0
+IsSevJudged bytes platform digest status plan host gains =
+    ((status ≡ is.NotFit)
+    × ((misfit : Misfit) × (first_misfit bytes platform plan host ≡ Some misfit) × gains (misfit_text misfit)))
+    ⊎ ((status ≡ is.Done) × (first_misfit bytes platform plan host ≡ None)
+    × gains (load_text (length (sev_placed (sev_load_of bytes platform host)))
+    (length (contexts (sev_load_of bytes platform host))) digest))
+
+-- an image with a digest is judged on the host that HOST describes, or HOST is refused
+abbrev pub SevHostAnswers : List ℕ → Platform → List ℕ → Status → ℕ → (List ℕ → Type 0) → (List ℕ → Type 0) → Type 0
+SevHostAnswers bytes platform digest status given gains put =
+    IsHostRefused status given put
+    ⊎ ((text : List ℕ) × (plan : List PlanRange) × (host : HostValues) × IsHostText text given (Ok (plan, host))
+    × IsSevJudged bytes platform digest status plan host gains)
+
+-- `sev-load`: FILE is refused, or its image has no such digest, or HOST answers for an image that has one
+abbrev pub SevLoadAnswers : PlatformChoice → Status → ℕ → (List ℕ → Type 0) → (List ℕ → Type 0) → Type 0
+SevLoadAnswers wanted status given gains put =
+    IsHalted status ⊎ IsFileRefused status given put
+    ⊎ ((status ≡ is.Platform) × ((bytes : List ℕ) × IsImage bytes given × HasNoSevDigest wanted bytes put))
+    ⊎ ((bytes : List ℕ) × (platform : Platform) × (digest : List ℕ) × IsSevMeasured wanted bytes platform digest
+    × SevHostAnswers bytes platform digest status given gains put)
+
+-- After a `sev-load` that is done the machine is done, and the output has gained what the machine then says of itself:
+-- how many pages and contexts it holds, and its digest.
+pub record SevLoadIsTold {O M : Type 0} (o : sinks.Ghosts O) (m : sevs.Ghosts M) (out out' : O) (sev' : M) : Type 0 where
+  pub done : (m.state sev').phase ≡ phase.Done
+  pub digest : List ℕ
+  pub own : (m.state sev').digest ≡ Some digest
+  pub text : Gains o (load_text (length (m.state sev').entries) (length (m.state sev').contexts) digest) out out'
 
 -- ---- `vmsa-build`
 

@@ -1,9 +1,13 @@
 pub mod UsageText
+pub mod SevMeasureJob
+pub mod SevLoadJob
+pub mod SevClauses
 pub mod ShortFiles
 pub mod VmsaJobs
 pub mod ElfTexts
 pub mod BuildElfJob
 pub mod AllJobs
+pub mod SevEndings
 pub mod FurtherAnswers
 pub mod ElfInGuest
 pub use Rattle.igvm_jobs.specs.Clauses

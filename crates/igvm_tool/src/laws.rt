@@ -4,20 +4,56 @@ ghost use Rattle.std.specs.FinMap as map;
 ghost use Rattle.igvm_outside.specs.Files.{Files};
 ghost use Rattle.image_builder.specs.Layout.{layout};
 ghost use Rattle.elf_list.specs.ElfParts.{with_elf_pages};
-ghost use Rattle.further_words.specs.FurtherWords.{ElfWords};
+ghost use Rattle.igvm_words.specs.Words.{PlatformChoice};
+ghost use Rattle.further_words.specs.FurtherWords.{SevLoadWords, ElfWords};
 ghost use Rattle.vmsa_page.specs.Pages.{vmsa_of};
 ghost use Rattle.vmsa_page.specs.Texts.{vmsa_json};
 ghost use Rattle.igvm_jobs.specs.declared.status.Status as status;
+ghost use Rattle.igvm_jobs.specs.declared.status.Status.TheVariants as is;
 ghost use Rattle.igvm_jobs.specs.Clauses.{KeepsPromises, Gains, IsPut};
 ghost use Rattle.igvm_jobs.specs.Outcome.{done, done_writing};
 ghost use Rattle.igvm_jobs.specs.Texts.{built_text};
+ghost use Rattle.igvm_tool.specs.SevMeasureJob.{sev_measure_task};
+ghost use Rattle.igvm_tool.specs.SevLoadJob.{sev_load_task};
+ghost use Rattle.igvm_tool.specs.SevClauses.{KeepsSevPromises};
 ghost use Rattle.igvm_tool.specs.VmsaJobs.{vmsa_build_task, vmsa_print_task};
 ghost use Rattle.igvm_tool.specs.BuildElfJob.{build_elf_task};
-ghost use Rattle.igvm_tool.specs.FurtherAnswers.{VmsaBuildAnswers, VmsaPrintAnswers, IsElfBuilt, ElfAnswers};
+ghost use Rattle.igvm_tool.specs.FurtherAnswers.{SevMeasureAnswers, SevLoadAnswers, SevLoadIsTold, VmsaBuildAnswers, VmsaPrintAnswers, IsElfBuilt, ElfAnswers};
 ghost use Rattle.igvm_tool.specs.ElfInGuest.{AlwaysPlacesElf};
 
 use igvm_outside::{Shelf, Sink};
 use launch_platform::Launch;
+use sev_platform::SevLaunch;
+
+/// Whatever is told, `sev-measure` answers for some bytes of FILE, as many as it gave.
+pub fn sev_measure_answers<S: Shelf, O: Sink, E: Sink, L: Launch>()
+    ensures { (file : List ℕ) (wanted : PlatformChoice) (status : status.Status)
+        (shelf shelf' : S) (out out' : O) (err err' : E) (machine machine' : L)
+        → KeepsPromises S.Shelf O.Sink E.Sink L.Launch (sev_measure_task file wanted) status
+        shelf shelf' out out' err err' machine machine'
+        → SevMeasureAnswers wanted status (S.given shelf')
+        (λ text. Gains O.Sink text out out') (λ text. IsPut E.Sink text err err') }
+{}
+
+/// Whatever is told, `sev-load` answers for some bytes of FILE and, where these lead on to it, some text
+/// of HOST, as many as were given last.
+pub fn sev_load_answers<S: Shelf, O: Sink, E: Sink, M: SevLaunch>()
+    ensures { (words : SevLoadWords) (status : status.Status)
+        (shelf shelf' : S) (out out' : O) (err err' : E) (sev sev' : M)
+        → KeepsSevPromises S.Shelf O.Sink E.Sink M.SevLaunch (sev_load_task words) status
+        shelf shelf' out out' err err' sev sev'
+        → SevLoadAnswers words.wanted status (S.given shelf')
+        (λ text. Gains O.Sink text out out') (λ text. IsPut E.Sink text err err') }
+{}
+
+/// After a `sev-load` that is done the machine is done, and what was put is what it says of itself.
+pub fn sev_load_is_told<S: Shelf, O: Sink, E: Sink, M: SevLaunch>()
+    ensures { (words : SevLoadWords)
+        (shelf shelf' : S) (out out' : O) (err err' : E) (sev sev' : M)
+        → KeepsSevPromises S.Shelf O.Sink E.Sink M.SevLaunch (sev_load_task words) is.Done
+        shelf shelf' out out' err err' sev sev'
+        → SevLoadIsTold O.Sink M.SevLaunch out out' sev' }
+{}
 
 /// Whatever is told, `vmsa-build` writes the page of the VMSA that some text describes, as long as JSON
 /// gave, or says in one of its texts why not.

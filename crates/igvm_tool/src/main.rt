@@ -6,6 +6,8 @@ mod elf_texts;
 mod further;
 mod laws;
 mod running;
+mod sev_loading;
+mod sev_measuring;
 #[cfg(test)]
 mod tests;
 mod texts;
@@ -18,6 +20,7 @@ use igvm_outside::{StdShelf, StdSink};
 use igvm_words::Words;
 use launch_platform::MemLaunch;
 use running::run_all;
+use sev_platform::SevMemLaunch;
 use std::process::ExitCode;
 use std::{env, io};
 
@@ -44,6 +47,7 @@ fn status_of(rt: HostRuntime) -> Status {
     let mut shelf = StdShelf::new(rt);
     let mut out = StdSink::output(rt);
     let mut machine = MemLaunch::new(rt.alloc());
+    let mut sev = SevMemLaunch::new(rt.alloc());
     run_all(
         rt.alloc(),
         &words,
@@ -51,6 +55,7 @@ fn status_of(rt: HostRuntime) -> Status {
         &mut out,
         &mut err,
         &mut machine,
+        &mut sev,
     )
 }
 

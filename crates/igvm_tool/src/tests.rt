@@ -1,6 +1,8 @@
 //! Worked examples through `run_all`, over shelves, outputs and machines in memory.
 mod elf_images;
 mod further_faults;
+mod sev_digests;
+mod sev_loads;
 mod usage;
 mod vmsa_pages;
 
@@ -10,6 +12,7 @@ use igvm_jobs::Status;
 use igvm_outside::{MemShelf, MemSink};
 use igvm_words::Words;
 use launch_platform::{Launch, MemLaunch, Phase};
+use sev_platform::{SevLaunch, SevMemLaunch};
 use std::alloc::Global;
 use std::process::Abort;
 
@@ -22,8 +25,8 @@ fn words_of(alloc: Global, text: &str) -> Result<Words, Memory> {
     Ok(words)
 }
 
-/// Runs words over a shelf. The status, the output and the error output must be these, and the machine
-/// is idle.
+/// Runs words over a shelf. The status, the output and the error output must be these, and both machines
+/// are idle.
 fn must_run(
     rt: &impl Abort,
     name: &str,
@@ -35,9 +38,19 @@ fn must_run(
     let mut out = MemSink::new(alloc);
     let mut err = MemSink::new(alloc);
     let mut machine = MemLaunch::new(alloc);
-    let status = run_all(alloc, words, shelf, &mut out, &mut err, &mut machine);
+    let mut sev = SevMemLaunch::new(alloc);
+    let status = run_all(
+        alloc,
+        words,
+        shelf,
+        &mut out,
+        &mut err,
+        &mut machine,
+        &mut sev,
+    );
     assert_eq!(rt; status, want.0, "{name}");
     assert_eq!(rt; out.bytes(), want.1.as_bytes(), "{name}");
     assert_eq!(rt; err.bytes(), want.2.as_bytes(), "{name}");
     assert_eq!(rt; machine.phase(), Phase::Idle, "{name}");
+    assert_eq!(rt; sev.phase(), Phase::Idle, "{name}");
 }

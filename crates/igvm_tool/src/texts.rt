@@ -7,8 +7,11 @@ usage: igvm build LIST OUT
        igvm measure FILE --platform P [--native-zero]
        igvm load FILE HOST --platform P [--native-zero] [--image OUT]
        igvm make N OUT
+       igvm sev-measure FILE --platform P
+       igvm sev-load FILE HOST --platform P
        igvm vmsa-build JSON OUT
        igvm vmsa-print FILE
        igvm build-elf LIST ELF MASK OUT
 P is snp, tdx or a platform number
+P of sev-measure and sev-load is sev, sev_es or a platform number
 ";

@@ -1,24 +1,41 @@
 //! Further commands whose shelf or output fails at each call in turn: what is answered, and what OUT holds
 //! then. The shelf gives and takes 1,000 bytes a call, and the output 8.
 use super::elf_images::{ELF, PLATFORM, shelf_with};
+use super::sev_digests::SEV;
 use super::words_of;
 use crate::running::run_all;
 use igvm_jobs::Status;
 use igvm_outside::{MemShelf, MemSink, read_all};
 use launch_platform::{Launch, MemLaunch, Phase};
+use sev_platform::{SevLaunch, SevMemLaunch};
 use std::alloc::Global;
 use std::test::Fail;
 
 /// A job: its words, how many calls of the shelf read and how many write, and the text that is put.
-static JOBS: [(&str, u64, u64, &str); 3] = [
+static JOBS: [(&str, u64, u64, &str); 5] = [
+    (
+        "sev-measure SEV --platform sev",
+        3,
+        0,
+        "e3b0c44298fc1c149afbf4c8996fb92427ae41e4649b934ca495991b7852b855\n",
+    ),
+    (
+        "sev-load SEV HOST --platform 0",
+        6,
+        0,
+        "loaded 0 pages, 0 contexts\n\
+        digest e3b0c44298fc1c149afbf4c8996fb92427ae41e4649b934ca495991b7852b855\n",
+    ),
     ("vmsa-build JSON OUT", 3, 7, "built 4096 bytes\n"),
     ("vmsa-print PAGE", 7, 0, r#"{"rip":"0xfff0"}"#),
     ("build-elf LIST ELF 1 OUT", 6, 13, "built 8336 bytes\n"),
 ];
 
-/// The files of all three. OUT is not there.
+/// The files of all five. OUT is not there.
 fn shelf_of(alloc: Global) -> Result<MemShelf, Fail> {
     let mut shelf = shelf_with(alloc, PLATFORM, &hex::decode(alloc, ELF)?)?;
+    shelf.put_file("SEV", &hex::decode(alloc, SEV)?)?;
+    shelf.put_file("HOST", br#"{"memory":[{"start":"0x0","bytes":"0x1000"}]}"#)?;
     shelf.put_file("JSON", br#"{"rip":"0xfff0"}"#)?;
     let mut page = Vec::new(alloc);
     page.resize(4096, 0)?;
@@ -35,6 +52,8 @@ struct Left {
     out: MemSink,
     err: MemSink,
     phase: Phase,
+    /// That of the SEV machine.
+    sev_phase: Phase,
     is_written: bool,
     /// What OUT holds, nothing where it is not there.
     written: Vec<u8>,
@@ -53,8 +72,18 @@ fn left_by(alloc: Global, text: &str, calls: (u64, u64, u64)) -> Result<Left, Fa
     err.set_piece(8);
     err.fail_call(calls.2)?;
     let mut machine = MemLaunch::new(alloc);
-    let status = run_all(alloc, &words, &mut shelf, &mut out, &mut err, &mut machine);
+    let mut sev = SevMemLaunch::new(alloc);
+    let status = run_all(
+        alloc,
+        &words,
+        &mut shelf,
+        &mut out,
+        &mut err,
+        &mut machine,
+        &mut sev,
+    );
     let phase = machine.phase();
+    let sev_phase = sev.phase();
     let (is_written, written) = match read_all(alloc, &mut shelf, "OUT", 100_000) {
         Ok(written) => (true, written),
         Err(_) => (false, Vec::new(alloc)),
@@ -64,6 +93,7 @@ fn left_by(alloc: Global, text: &str, calls: (u64, u64, u64)) -> Result<Left, Fa
         out,
         err,
         phase,
+        sev_phase,
         is_written,
         written,
     })
@@ -84,6 +114,7 @@ fn each_call_of_the_shelf_may_fail(rt: HostRuntime) -> Result<(), Fail> {
             );
             assert!(rt; left.out.bytes().is_empty(), "{text}, {call}");
             assert_eq!(rt; left.phase, Phase::Idle, "{text}, {call}");
+            assert_eq!(rt; left.sev_phase, Phase::Idle, "{text}, {call}");
             assert_eq!(rt; left.is_written, call > *reads + 1, "{text}, {call}");
             let front = left.written.as_slice();
             assert!(rt;
@@ -121,6 +152,7 @@ fn each_put_may_fail(rt: HostRuntime) -> Result<(), Fail> {
                 8 * (call - 1),
                 "{text}, {call}"
             );
+            assert_eq!(rt; left.sev_phase, whole.sev_phase, "{text}, {call}");
             assert_eq!(rt;
                 left.written.as_slice(),
                 whole.written.as_slice(),

@@ -11,19 +11,26 @@ usage: igvm build LIST OUT
        igvm measure FILE --platform P [--native-zero]
        igvm load FILE HOST --platform P [--native-zero] [--image OUT]
        igvm make N OUT
+       igvm sev-measure FILE --platform P
+       igvm sev-load FILE HOST --platform P
        igvm vmsa-build JSON OUT
        igvm vmsa-print FILE
        igvm build-elf LIST ELF MASK OUT
 P is snp, tdx or a platform number
+P of sev-measure and sev-load is sev, sev_es or a platform number
 ";
 
 /// Words that mean no job. The image would be accepted.
-static OTHERS: [&str; 9] = [
+static OTHERS: [&str; 13] = [
     "measure FILE",
     "measure --platform snp FILE",
     "measure FILE --platform=snp",
     "measure FILE --platform 01",
     "load FILE HOST --platform snp --image OUT --native-zero",
+    "sev-measure FILE --platform snp",
+    "sev-measure FILE --platform sev --native-zero",
+    "sev-load FILE --platform sev",
+    "sev-load FILE HOST --platform tdx",
     "vmsa-build FILE",
     "vmsa-print FILE OUT",
     "build-elf LIST FILE OUT",

@@ -16,7 +16,6 @@ returns c =
     rw (
       c.push-2.ensures,
       c.digits.ensures.text,
-      c.bytes.ensures.value,
       c.push.ensures,
       c.number-2.ensures.text,
       c.from-2.ensures,
