@@ -25,8 +25,8 @@ def write_host(path):
         json.dump({"memory": [{"start": "0x0", "bytes": "0x100000000"}]}, out)
 
 
-def load(program, image, host, kind, *option):
-    return [program, "load", image, host, "--platform", kind, *option]
+def load(program, image, host, kind, *option, command="load"):
+    return [program, command, image, host, "--platform", kind, *option]
 
 
 def seconds(name, taken, beside=""):

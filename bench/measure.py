@@ -19,9 +19,9 @@ KINDS = ("snp", "tdx")
 OPTION = "--native-zero"
 
 
-def section(pages, distinct):
-    """A SEV-SNP and a TDX platform, and the pages of both, their data behind the section in order."""
-    parts = [platform(1, 2), platform(2, 3)]
+def section(pages, distinct, kinds):
+    """Two platforms of these types, and the pages of both, their data behind the section in order."""
+    parts = [platform(mask, kind) for mask, kind in zip((1, 2), kinds)]
     data = 24 + 48 + 32 * pages
     for k in range(pages):
         offset = data + PAGE * k if distinct else 0
@@ -29,8 +29,9 @@ def section(pages, distinct):
     return b"".join(parts)
 
 
-def write_image(path, pages, distinct):
-    headers = section(pages, distinct)
+def write_image(path, pages, distinct, kinds=(2, 3)):
+    """An image of so many pages for two platforms, which are SEV-SNP and TDX unless named; its size."""
+    headers = section(pages, distinct, kinds)
     total = 24 + len(headers) + (PAGE * pages if distinct else 0)
     rest = os.urandom(PAGE - 8)
     with open(path, "wb") as out:
@@ -40,9 +41,9 @@ def write_image(path, pages, distinct):
     return total
 
 
-def measure(program, path, wanted):
+def measure(program, path, wanted, command="measure"):
     """The words that measure an image for a platform, the option behind its kind where wanted."""
-    return [program, "measure", path, "--platform", *wanted.split()]
+    return [program, command, path, "--platform", *wanted.split()]
 
 
 def report(name, program, path, size, times, wanted):

@@ -8,7 +8,7 @@ import struct
 
 from records import PAGE, data_page, headers
 
-SNP, TDX = 2, 3                     # the platform types that have a digest
+SNP, TDX, SEV, SEV_ES = 2, 3, 4, 5  # the platform types that have a digest
 PAGE_TYPES = {"normal": 1, "vmsa": 2, "zero": 3, "unmeasured": 4, "secrets": 5, "cpuid": 6}
 CHUNK = 256
 
@@ -73,8 +73,22 @@ def tdx(image, mask):
     return stream.digest()
 
 
+def sev(image, mask, kind):
+    """One digest of the bytes of all measured pages, and on SEV-ES of the contexts between them."""
+    stream = hashlib.sha256()
+    for _, what, _, page in places(image, mask, native_zero=False):
+        if what == "normal" or what == "vmsa" and kind == SEV_ES:
+            stream.update(page)
+    return stream.digest()
+
+
+def sev_digest(image, platform):
+    """The digest for one of the image's platforms, or None where it is neither SEV nor SEV-ES."""
+    return sev(image, platform.mask, platform.kind) if platform.kind in (SEV, SEV_ES) else None
+
+
 def digest(image, platform, native_zero):
-    """The digest for one of the image's platforms, with the option or without, or None where its kind has none."""
+    """That of SEV-SNP or TDX for one of the image's platforms, with the option or without, or None for other kinds."""
     if platform.kind == SNP:
         return snp(image, platform.mask, native_zero)
     return tdx(image, platform.mask) if platform.kind == TDX else None

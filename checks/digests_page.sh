@@ -19,15 +19,15 @@ trap 'rm -rf -- "$folder"' EXIT
 mkdir -- "$folder/page" && cd -- "$folder" || exit 1
 
 # The page in parts. Part N has the commands of the block number N that is marked `sh`; what a block without a mark
-# behind them says that they print or, where they print nothing, what they write; and the words of `igvm measure ..` in
-# each sentence behind that which says what it prints. Blocks with another mark, as `text`, take no part.
+# behind them says that they print or, where they print nothing, what they write; and the words of `igvm measure ..` and
+# `igvm sev-measure ..` in each sentence behind that which says what it prints. Blocks with another mark, as `text`, take no part.
 awk '
     /^```/ { mark = inside ? "" : $0; inside = !inside; if (inside && mark == "```sh") part++; next }
     inside && mark == "```sh" { print > ("page/" part ".commands") }
     inside && mark == "```" && part { print > ("page/" part ".wanted") }
     inside { next }
     {
-        for (text = $0; match(text, /`igvm measure [^`]*`[^`.]* prints/); text = substr(text, RSTART + RLENGTH)) {
+        for (text = $0; match(text, /`igvm (sev-)?measure [^`]*`[^`.]* prints/); text = substr(text, RSTART + RLENGTH)) {
             split(substr(text, RSTART, RLENGTH), quoted, "`")
             print substr(quoted[2], 6) > ("page/" part ".measured")
         }
@@ -53,7 +53,7 @@ for wanted in page/*.wanted; do
 done
 for measured in page/*.measured; do
     # The digest is the last line of what stands before the sentence.
-    tail -n 1 "${measured%measured}wanted" | grep -qxE '[0-9a-f]{96}' ||
+    tail -n 1 "${measured%measured}wanted" | grep -qxE '[0-9a-f]{64}|[0-9a-f]{96}' ||
         fault "no digest stands before: $(cat "$measured")"
     examples=$((examples + $(wc -l <"$measured")))
 done

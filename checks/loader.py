@@ -1,14 +1,14 @@
-"""What `load` answers for an image and a host, written from docs/LOADING.md and docs/PROGRAM.md alone.
+"""What `load` and `sev-load` answer for an image and a host, written from docs/LOADING.md and docs/PROGRAM.md alone.
 
-The image's parts and rules, and its digest, are those of records.py, reader.py and digests.py, and the host is that of
+The image's parts and rules, and its digests, are those of records.py, reader.py and digests.py, and the host is that of
 hosts.py. Nothing is launched: pages and contexts are laid out as the page says that a machine holds them.
 """
 import struct
-from collections import namedtuple
+from collections import Counter, namedtuple
 
 import digests
 from answers import answer, no_digest, platform
-from digests import SNP, kind_of
+from digests import SEV_ES, SNP, kind_of
 from hosts import read_host
 from lists import Refused
 from reader import first_fault
@@ -64,8 +64,9 @@ class Before:
             self.vps.add(field.vp)
 
 
-def rows(header, before, is_snp, host):
-    """The texts of the rows that hold for a header, in the page's order. Behind the first the rest means nothing."""
+def rows(header, before, kind, host):
+    """The texts of the rows that hold for a header on this kind of platform, in the page's order. Behind the first the
+    rest means nothing."""
     name, field = header.name, header.fields
     if name == "Policy" and name in before.names:
         yield "policy repeated"
@@ -76,7 +77,7 @@ def rows(header, before, is_snp, host):
     if name == "Param":
         if field.byte_offset + len(host.value(PARAMETERS[header.type])) > before.areas[field.index]:
             yield "value too long"
-    if name == "Page" and not is_snp and field.data_type != 0:
+    if name == "Page" and kind != SNP and field.data_type != 0:
         yield "type not here"
     if name in ("Page", "Insert", "Required", "ErrorRange"):
         if not host.covers(field.gpa, size_of(header, before.areas)):
@@ -87,11 +88,11 @@ def rows(header, before, is_snp, host):
             yield "repeated"
         if len(before.pages) + len(own) > PAGES_MOST:
             yield "too many pages"
-    if name == "Context" and not is_snp:
+    if name == "Context" and kind not in (SNP, SEV_ES):
         yield "context not here"
     if name == "Context" and field.vp in before.vps:
         yield "context repeated"
-    if name == "IdBlock" and not is_snp:
+    if name == "IdBlock" and kind != SNP:
         yield "id block not here"
     if name == "IdBlock" and name in before.names:
         yield "id block repeated"
@@ -101,7 +102,7 @@ def first_misfit(image, one, host):
     """The number and the text of the first header that doesn't fit, but for the digest of an ID block, or None."""
     before = Before()
     for number, header in counting(image, one):
-        for text in rows(header, before, one.kind == SNP, host):
+        for text in rows(header, before, one.kind, host):
             return number, text
         before.add(header)
     return None
@@ -163,13 +164,14 @@ def does_not_fit(number, text):
     return Loaded(3, f"does not fit: header {number}: {text}\n", "", None)
 
 
-def load(image, text, wanted, native_zero):
-    """What the program answers, and the pages file, for a file FILE, a file HOST and the word P."""
+def answered(image, text, wanted, kinds, launched):
+    """What is answered for a file FILE, a file HOST and the word P: that of `launched`, for the platform and the host,
+    where the platform is of these kinds and its headers fit."""
     fault = first_fault(image)
     if fault is not None:
         return Loaded(*answer("load", image, fault), None)
     one = platform(image, wanted)
-    error = no_digest(one, wanted)
+    error = no_digest(one, wanted, kinds)
     if error is not None:
         return refused(6, error)
     if len(text) > HOST_MOST:
@@ -179,12 +181,31 @@ def load(image, text, wanted, native_zero):
     except Refused as refusal:
         return refused(7, refusal.error)
     misfit = first_misfit(image, one, host)
-    if misfit is not None:
-        return does_not_fit(*misfit)
-    digest = digests.digest(image, one, native_zero)
-    misfit = wrong_digest(image, one, digest)
-    if misfit is not None:
-        return does_not_fit(*misfit)
-    pages, contexts = placed(image, one, native_zero, host)
-    text = f"loaded {len(pages)} pages, {len(contexts)} contexts\ndigest {digest.hex()}\n"
-    return Loaded(0, text, "", b"".join(pages + contexts))
+    return launched(one, host) if misfit is None else does_not_fit(*misfit)
+
+
+def loaded_text(pages, contexts, digest):
+    return f"loaded {pages} pages, {contexts} contexts\ndigest {digest.hex()}\n"
+
+
+def load(image, text, wanted, native_zero):
+    """What `load` answers, and the pages file."""
+    def launched(one, host):
+        digest = digests.digest(image, one, native_zero)
+        misfit = wrong_digest(image, one, digest)
+        if misfit is not None:
+            return does_not_fit(*misfit)
+        pages, contexts = placed(image, one, native_zero, host)
+        return Loaded(0, loaded_text(len(pages), len(contexts), digest), "", b"".join(pages + contexts))
+
+    return answered(image, text, wanted, ("snp", "tdx"), launched)
+
+
+def sev_load(image, text, wanted):
+    """What `sev-load` answers, which has no pages file."""
+    def launched(one, _):
+        names = Counter(name for name, *_ in digests.places(image, one.mask, native_zero=False))
+        text = loaded_text(names["Page"] + names["Insert"], names["Context"], digests.sev_digest(image, one))
+        return Loaded(0, text, "", None)
+
+    return answered(image, text, wanted, ("sev", "sev_es"), launched)

@@ -25,7 +25,7 @@ import random_hosts
 from answers import OPTION, platform
 from loader import TAGS, Loaded, load
 from program import Program, is_built, shared_memory
-from random_hosts import WORDS, Pair
+from random_hosts import LAUNCHED, WORDS, Pair, words_of
 from records import FIXED_SIZES, fixed, headers
 
 SEED, LEAST = 20240229, 20          # how many pairs have to meet each of OUTCOMES
@@ -51,7 +51,7 @@ OUTCOMES = (
     *(f"{name}: {text}" for name, texts in ROWS.items() for text in texts),
     "host: no JSON", *(f"host: {part}" for part in ("top", "memory", "values", "secrets", "cpuid")),
     "file refused", "no platform", "no digest",
-    *(f"loaded {kind}{option}{image}" for kind in WORDS.values() for option in ("", f" {OPTION}")
+    *(f"loaded {kind}{option}{image}" for kind in words_of(LAUNCHED) for option in ("", f" {OPTION}")
       for image in ("", " --image")),
     *(f"loaded version {version}" for version in FIXED_SIZES), *(f"loaded {tag}" for tag in TAGS),
     f"{OPTION} changes the digest", *(f"written to {out}" for out in sorted(set(OUTS))),

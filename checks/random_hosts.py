@@ -7,15 +7,17 @@ import json
 from collections import namedtuple
 
 import digests
-from digests import SNP, TDX
+from digests import SEV, SEV_ES, SNP, TDX
 from hosts import NAMES
 from images import (area, context, error_range, header, id_block, image_of, insert, mended, page, param, platform,
                     policy, required, row)
-from random_images import Maker, WholeMaker
+from random_images import Maker, SevMaker, WholeMaker, WholeSevMaker
 from records import FIXED_SIZES, LARGE, PAGE, platforms
 
 TOP, AREA_MOST, MEMORY_END = 2 ** 32 - 1, 67108864, 2 ** 52
-WORDS = {SNP: "snp", TDX: "tdx"}
+WORDS = {SNP: "snp", TDX: "tdx", SEV: "sev", SEV_ES: "sev_es"}
+# The kinds that `load` and `sev-load` launch, each as often as it comes in random pairs
+LAUNCHED, SEV_LAUNCHED = (SNP, SNP, TDX), (SEV, SEV_ES)
 NO_BYTES = ("0", "0x00", "0g", " 00", "00 ", None, 0, 1.5, True, [], {}, ["00"], "\u0660\u0660")
 NO_RANGES = (None, [], {}, "0x0", {"start": "0x0"}, {"bytes": "0x1000"}, {"start": 0, "bytes": 4096})
 NO_ADDRESSES = ("0x1", "0x800", "4096", "0X1000", "0x", "0x00000000000001000", None, 4096, "0xfffffffffffff000")
@@ -272,7 +274,7 @@ class ImageMaker:
 
     def context(self):
         vp = self.chance.choice((len(self.vps), self.chance.randrange(65536)))
-        if self.kind != SNP or vp in self.vps:
+        if self.kind not in (SNP, SEV_ES) or vp in self.vps:
             return []
         self.vps.append(vp)
         return [self.any_context(self.mask(), vp)]
@@ -417,63 +419,66 @@ class ImageMaker:
 
 # What may be wrong of an image, by the platform's kind
 WRONG = {SNP: ("policy", "area", "gone", "value", "address", "page", "context", "id_block", "digest"),
-         TDX: ("policy", "area", "gone", "value", "address", "page", "context", "id_block", "type")}
+         **dict.fromkeys((TDX, SEV, SEV_ES), (
+             "policy", "area", "gone", "value", "address", "page", "context", "id_block", "type"))}
 
 
-def kind_of_platform(chance):
-    return chance.choice((SNP, SNP, TDX))
+def words_of(kinds):
+    """The words P that mean one of these kinds."""
+    return [WORDS[kind] for kind in dict.fromkeys(kinds)]
 
 
-def fitting(chance):
+def fitting(chance, kinds=LAUNCHED):
     """A host, and an image that fits it."""
     host = HostMaker(chance)
-    made = ImageMaker(chance, host, kind_of_platform(chance))
+    made = ImageMaker(chance, host, chance.choice(kinds))
     return Pair(made.image(), host.text(), made.wanted())
 
 
-def misfitting(chance):
+def misfitting(chance, kinds=LAUNCHED):
     """A host, and an image of which one or two headers don't fit it."""
-    host, kind = HostMaker(chance), kind_of_platform(chance)
+    host, kind = HostMaker(chance), chance.choice(kinds)
     wrong = chance.sample(WRONG[kind], chance.choice((1, 1, 2)))
     made = ImageMaker(chance, host, kind, [f"wrong_{name}" for name in wrong])
     return Pair(made.image(), host.text(), made.wanted())
 
 
-def wrong_host(chance):
+def wrong_host(chance, kinds=LAUNCHED):
     """A host description that is refused, mostly, and an image that fits it or not."""
-    host, kind = WrongHostMaker(chance), kind_of_platform(chance)
+    host, kind = WrongHostMaker(chance), chance.choice(kinds)
     made = ImageMaker(chance, host, kind, chance.choice(((), (), ("wrong_address",))))
     return Pair(made.image(), host.text(), made.wanted())
 
 
-def wrong_platform(chance):
+def wrong_platform(chance, kinds=LAUNCHED):
     """Any word P, for a host that may be refused."""
     host = chance.choice((HostMaker, WrongHostMaker))(chance)
-    made = ImageMaker(chance, host, kind_of_platform(chance))
-    return Pair(made.image(), host.text(), chance.choice(("snp", "tdx", *map(str, range(6)), "4294967295")))
+    made = ImageMaker(chance, host, chance.choice(kinds))
+    return Pair(made.image(), host.text(), chance.choice((*words_of(kinds), *map(str, range(6)), "4294967295")))
 
 
-def wrong_file(chance):
+def wrong_file(chance, kinds=LAUNCHED):
     """An image that is cut or has another byte, or a random one, for a host that may be refused."""
     host = chance.choice((HostMaker, WrongHostMaker))(chance)
-    made = ImageMaker(chance, host, kind_of_platform(chance))
+    made = ImageMaker(chance, host, chance.choice(kinds))
     image = made.image()
     at = chance.randrange(chance.choice((32, len(image))))
     other = chance.choice((image[:at], image[:at] + chance.randbytes(1) + image[at + 1:], Maker(chance, 0.1).image()))
     return Pair(other, host.text(), made.wanted())
 
 
-def any_image(chance):
+def any_image(chance, kinds=LAUNCHED):
     """An image that knows nothing of its host, of one platform with a few headers or of all kinds of headers."""
     host = HostMaker(chance)
     host.memory = chance.choice((host.memory, [(0, MEMORY_END)]))
-    made = chance.choice((Maker(chance, 0), WholeMaker(chance)))
-    return Pair(made.image(), host.text(), chance.choice(("snp", "tdx", "0")))
+    makers = (SevMaker, WholeSevMaker) if SEV in kinds else (Maker, WholeMaker)
+    made = chance.choice((makers[0](chance, 0), makers[1](chance)))
+    return Pair(made.image(), host.text(), chance.choice((*words_of(kinds), "0")))
 
 
-def crowded(chance):
+def crowded(chance, kinds=LAUNCHED):
     """Large pages of zeros up to the limit, and one header more that places pages."""
-    host, kind = HostMaker(chance), kind_of_platform(chance)
+    host, kind = HostMaker(chance), chance.choice(kinds)
     host.memory = [(0, chance.choice((2 ** 32, MEMORY_END)))]
     rest = chance.choice((1024, 1024 - AREA_MOST // LARGE, 1024 - AREA_MOST // LARGE))
     parts = [page(LARGE * at, flags=1 + chance.choice((0, 2))) for at in range(rest)]

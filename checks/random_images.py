@@ -196,3 +196,17 @@ class WholeMaker(Maker):
         for kind in CARRIED:
             kinds.insert(chance.randint(0, len(kinds)), kind)
         return kinds
+
+
+class SevMaker(Maker):
+    """One random image, most of whose platforms are SEV or SEV-ES."""
+
+    def platform_kind(self):
+        return self.pick((4, 4, 4, 5, 5, 5, 0, 1, 2, 3), (6, 255))
+
+
+class WholeSevMaker(WholeMaker):
+    """One that breaks no rule."""
+
+    def platform_kind(self):
+        return self.chance.choice((4, 4, 5, 5, 5, 0, 1, 2, 3))

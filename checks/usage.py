@@ -1,10 +1,10 @@
 #!/usr/bin/env -S python3 -B
 """The program takes the words that docs/PROGRAM.md lists, and no others.
 
-Each row of words is run in a folder where a small image with three platforms lies under several names, a list of one
-platform under several others, and a host description, a VMSA page, its text and an ELF file under others again. What
-`make` writes is maker.py's image. The usage text is read from the page; it has a line for each of FORMS. Ends with 77
-where the program isn't built.
+Each row of words is run in a folder where a small image with three platforms lies under several names, one for SEV and
+SEV-ES and a list of one platform under others, and a host description, a VMSA page, its text and an ELF file under
+others again. What `make` writes is maker.py's image. The usage text is read from the page; it has a line for each of
+FORMS, and then those of ON_P. Ends with 77 where the program isn't built.
 """
 import os
 import sys
@@ -14,20 +14,26 @@ import elves
 import images
 import reader
 import vmsas
-from answers import answer
+from answers import SEV_COMMANDS, answer
 from elf_cases import THREE
-from loader import load
+from loader import load, sev_load
 from maker import made
 from program import ROOT, Program, is_built, usage
 from random_lists import TOP
 from vmsa_cases import RESET, RESET_TEXT
 
 FORMS = ("build LIST OUT", "print FILE", "measure FILE --platform P [--native-zero]",
-         "load FILE HOST --platform P [--native-zero] [--image OUT]", "make N OUT", "vmsa-build JSON OUT",
-         "vmsa-print FILE", "build-elf LIST ELF MASK OUT")
+         "load FILE HOST --platform P [--native-zero] [--image OUT]", "make N OUT", "sev-measure FILE --platform P",
+         "sev-load FILE HOST --platform P", "vmsa-build JSON OUT", "vmsa-print FILE", "build-elf LIST ELF MASK OUT")
+ON_P = ["P is snp, tdx or a platform number", "P of sev-measure and sev-load is sev, sev_es or a platform number"]
 PLATFORMS = ((1, 0), (2, 3), (4, 2))           # mask and platform type: native, tdx, snp
 IMAGE = images.image_of(images.row([*(images.platform(*one) for one in PLATFORMS), images.page(0x1000, mask=6)]))
 NAMES = ("image", "-x", "measure", "print", "snp")      # the image's, all the same
+# One page for SEV and SEV-ES, and a context for SEV-ES alone; the second SEV platform counts for a page more.
+SEV_IMAGE = images.image_of(images.row([
+    *(images.platform(*one) for one in ((1, 4), (2, 5), (4, 4), (8, 2))), images.page(0x1000, mask=7),
+    images.context(0xFFFFFFFFF000, mask=2), images.page(0x2000, mask=4)]))
+SEV_NAMES = ("sevs", "-sevs", "sev-load", "sev")        # that image's, all the same
 LIST = b'{"platforms":[{"kind":"snp","mask":1}],"directives":[]}'
 BUILT = images.image_of(images.platform())
 LIST_NAMES = ("list", "-list", "build")                 # the list's, all the same
@@ -48,7 +54,15 @@ LOADED = (
     ("load image host --platform 0 --image new", "0", False), ("load image host --platform 3 --image new", "3", False),
     ("load image host --platform 3 --native-zero --image new", "3", True),
 )
-# the same with OUT, which is written; the last ones write over HOST and FILE
+# words that load the image for SEV and SEV-ES, or the other one, on the host, and that image and P
+SEV_LOADED = (
+    *((f"sev-load sevs host --platform {wanted}", SEV_IMAGE, wanted)
+      for wanted in ("sev", "sev_es", "0", "1", "2", "3", "4", "32", "4294967295")),
+    *((f"sev-load image host --platform {wanted}", IMAGE, wanted) for wanted in ("sev", "sev_es", "0", "1", "2", "3")),
+    ("sev-load sev-load load --platform sev_es", SEV_IMAGE, "sev_es"),
+    ("sev-load ./-sevs ./-host --platform 2", SEV_IMAGE, "2"), ("sev-load sev host --platform sev", SEV_IMAGE, "sev"),
+)
+# the same of `load` with OUT, which is written; the last ones write over HOST and FILE
 LOADING = (
     ("load image host --platform snp --image pages", "snp", False, "pages"),
     ("load image host --platform tdx --image pages", "tdx", False, "pages"),
@@ -92,6 +106,9 @@ TAKEN = (
       for wanted in ("snp", "tdx", "0", "1", "2", "3", "4294967295")),
     ("measure measure --platform snp --native-zero", "measure snp --native-zero"),
     ("measure ./-x --platform snp --native-zero", "measure snp --native-zero"),
+    *((command.replace(" ", " image --platform "), command) for command in SEV_COMMANDS),
+    ("sev-measure ./-x --platform sev", "sev-measure sev"),
+    ("sev-measure print --platform 4294967295", "sev-measure 4294967295"),
 )
 # words that mean none
 REFUSED = (
@@ -173,6 +190,55 @@ REFUSED = (
     "make 4 --image new", "make 4 new --native-zero", "make 4 --native-zero", "make --native-zero 4 new",
     "make 4 new --platform snp", "make 4 --platform snp", "make 4 new --image pages", "make 4 new --native-zero new",
     "Make 4 new", "MAKE 4 new", "mak 4 new", "makes 4 new", "--make 4 new", "4 make new", "4 new make", "new 4 make",
+    "sev-measure", "sev-measure image", "sev-measure image --platform", "sev-measure image sev",
+    "sev-measure --platform sev", "sev-measure --platform sev image", "sev-measure image image --platform sev",
+    "sev-measure image --platform sev sev", "sev-measure image --platform sev image",
+    "sev-measure image --platform sev --platform sev", "sev-measure image --platform=sev",
+    "sev-measure image --Platform sev", "sev-measure image -platform sev", "sev-measure image -p sev",
+    "sev-measure -- image --platform sev", "sev-measure image -- --platform sev", "sev-measure image --platform -- sev",
+    "sev-measure image --platform sev --", "-- sev-measure image --platform sev", "sev-measure -x --platform sev",
+    "sev-measure - --platform sev", "sev-measure --help", "sev-measure image --help",
+    "sev-measure image --platform sev --help", "sev-measure image --platform sev --native-zero",
+    "sev-measure image --native-zero --platform sev", "sev-measure image --platform sev --image new",
+    "sev-measure image host --platform sev", "sev-measure list host --platform sev",
+    *(f"sev-measure image --platform {wanted}" for wanted in (
+        "snp", "tdx", "native", "vsm", "SEV", "Sev", "SEV_ES", "sev-es", "seves", "sev_es_", "sev_", "sev_e", "se",
+        "sev,sev_es", "00", "01", "+0", "+1", "-1", "-0", "0x0", "0x1", "1.0", "1e0", "1_0", "4294967296",
+        "18446744073709551616", "18446744073709551617", "04294967295", "\u0661", "--", "-")),
+    "measure image --platform sev", "measure image --platform sev_es", "load image host --platform sev",
+    "load image host --platform sev_es", "sev_measure image --platform sev", "sevmeasure image --platform sev",
+    "sev measure image --platform sev", "measure sev image --platform sev", "measure-sev image --platform sev",
+    "Sev-measure image --platform sev", "SEV-MEASURE image --platform sev", "sev-measur image --platform sev",
+    "sev-measures image --platform sev", "--sev-measure image --platform sev", "sev image --platform sev",
+    "image sev-measure --platform sev", "image --platform sev sev-measure",
+    "sev-load", "sev-load sevs", "sev-load sevs host", "sev-load sevs host --platform", "sev-load sevs host sev",
+    "sev-load --platform sev", "sev-load sevs --platform sev", "sev-load host --platform sev",
+    "sev-load sevs host sevs --platform sev", "sev-load sevs host host --platform sev",
+    "sev-load sevs sevs host --platform sev", "sev-load --platform sev sevs host", "sev-load sevs --platform sev host",
+    "--platform sev sev-load sevs host", "sev-load -sevs host --platform sev", "sev-load sevs -host --platform sev",
+    "sev-load - host --platform sev", "sev-load sevs - --platform sev", "sev-load -- sevs host --platform sev",
+    "sev-load sevs -- host --platform sev", "sev-load sevs host -- --platform sev",
+    "sev-load sevs host --platform -- sev", "sev-load sevs host --platform sev --",
+    "-- sev-load sevs host --platform sev", "sev-load --help",
+    "sev-load sevs host --help", "sev-load sevs host --platform sev --help", "sev-load sevs host --platform=sev",
+    "sev-load sevs host -p sev", "sev-load sevs host -platform sev", "sev-load sevs host --Platform sev",
+    "sev-load sevs host --platform sev sev", "sev-load sevs host --platform sev host",
+    "sev-load sevs host --platform sev --platform sev", "sev-load sevs host --platform sev --native-zero",
+    "sev-load sevs host --native-zero --platform sev", "sev-load --native-zero sevs host --platform sev",
+    "sev-load sevs host --platform sev --image new", "sev-load sevs host --image new --platform sev",
+    "sev-load --image new sevs host --platform sev", "sev-load sevs host --platform sev --image",
+    "sev-load sevs host --platform sev --native-zero --image new", "sev-load sevs host new --platform sev",
+    *(f"sev-load sevs host --platform {wanted}" for wanted in (
+        "snp", "tdx", "native", "vsm", "SEV", "Sev", "SEV_ES", "sev-es", "seves", "sev_es_", "sev_", "sev_e", "se",
+        "sev,sev_es", "00", "01", "+0", "+1", "-1", "-0", "0x0", "0x1", "1.0", "1e0", "1_0", "4294967296",
+        "18446744073709551616", "18446744073709551617", "04294967295", "\u0661", "--", "-")),
+    "load sevs host --platform sev", "load sevs host --platform sev_es", "sev_load sevs host --platform sev",
+    "sevload sevs host --platform sev", "sev load sevs host --platform sev", "load sev sevs host --platform sev",
+    "load-sev sevs host --platform sev", "Sev-load sevs host --platform sev", "SEV-LOAD sevs host --platform sev",
+    "sev-loa sevs host --platform sev", "sev-loads sevs host --platform sev", "--sev-load sevs host --platform sev",
+    "sev sevs host --platform sev", "sevs sev-load host --platform sev", "sevs host sev-load --platform sev",
+    "sevs host --platform sev sev-load", "sev-measure sevs host --platform sev_es",
+    "sev-es-load sevs host --platform sev",
     "vmsa-build", "vmsa-build json", "vmsa-build json new new", "vmsa-build json json new", "vmsa-build -json new",
     "vmsa-build json -new", "vmsa-build - new", "vmsa-build json -", "vmsa-build -- json new", "vmsa-build json --",
     "vmsa-build json -- new", "-- vmsa-build json new", "vmsa-build --help", "vmsa-build json --help",
@@ -226,6 +292,14 @@ EMPTY = (["print", ""], ["measure", "", "--platform", "snp"], ["measure", "image
          [b"load", b"image", b"ho\xffst", b"--platform", b"snp"],
          [b"load", b"im\xffage", b"host", b"--platform", b"snp"],
          [b"load", b"image", b"host", b"--platform", b"snp", b"--image", b"ne\xffw"],
+         ["sev-load", "", "host", "--platform", "sev"], ["sev-load", "sevs", "", "--platform", "sev"],
+         ["sev-load", "sevs", "host", "--platform", ""], ["sev-load", "sevs", "host", "", "sev"],
+         ["sev-load", "sevs", "host", "--platform", "sev", ""], ["sev-load", "sevs host", "--platform", "sev"],
+         ["sev-load", "sevs", "host", "--platform sev"], ["sev-load", "sevs", "host", "--platform", " sev"],
+         ["sev-load", "sevs", "host", "--platform", "sev "], ["sev-load sevs", "host", "--platform", "sev"],
+         ["", "sev-load", "sevs", "host", "--platform", "sev"], ["sev-load ", "sevs", "host", "--platform", "sev"],
+         [b"sev-load", b"sevs", b"ho\xffst", b"--platform", b"sev"],
+         [b"sev-load", b"se\xffvs", b"host", b"--platform", b"sev"],
          ["make", "", "new"], ["make", "4", ""], ["make", "4 ", "new"], ["make", " 4", "new"], ["make 4", "new"],
          ["make", "4 new"], ["make", "4", "new", ""], ["", "make", "4", "new"],
          ["vmsa-build", "", "new"], ["vmsa-build", "json", ""], ["vmsa-build", "json", "new", ""],
@@ -243,14 +317,19 @@ EMPTY = (["print", ""], ["measure", "", "--platform", "snp"], ["measure", "image
          [b"make", b"4", b"ne\xffw"], [b"make", b"4\xff", b"new"], [b"make", b"\xff", b"new"],
          [b"build", b"list", b"ne\xffw"], [b"build", b"li\xffst", b"new"], [b"print", b"im\xffage"],
          [b"measure", b"image", b"--platform", b"\xff"],
+         ["sev-measure", "", "--platform", "sev"], ["sev-measure", "image", "", "sev"],
+         ["sev-measure", "image", "--platform", ""], ["sev-measure", "image", "--platform", "sev", ""],
+         ["sev-measure", "image", "--platform sev"], ["sev-measure image", "--platform", "sev"],
+         ["sev-measure", "image", "--platform", "sev "], ["sev-measure", "image", "--platform", " 0"],
+         [b"sev-measure", b"im\xffage", b"--platform", b"sev"], [b"sev-measure", b"image", b"--platform", b"se\xff"],
          [b"measure", b"image", b"--platform", b"snp", b"--native-zero\xff"])
 SHOWN = 100                         # bytes of a file that are printed
 
 
 def wrong_lines(text):
-    """Where the usage text has other lines than those of FORMS and the last one."""
+    """Where the usage text has other lines than those of FORMS and the last two, which are on P."""
     lines = [line.strip() for line in text.removeprefix("usage: ").splitlines()]
-    if lines[:-1] != [f"igvm {form}" for form in FORMS]:
+    if lines[:-2] != [f"igvm {form}" for form in FORMS]:
         yield f"the usage text of docs/PROGRAM.md has other lines than those of {FORMS}"
 
 
@@ -260,6 +339,8 @@ def rows():
         yield words.split(), answer(command, IMAGE, None)
     for words, *options in LOADED:
         yield words.split(), load(IMAGE, HOST, *options)[:3]
+    for words, image, wanted in SEV_LOADED:
+        yield words.split(), sev_load(image, HOST, wanted)[:3]
     for words in (*(words.split() for words in REFUSED), *EMPTY):
         yield words, (2, "", usage())
     yield ["print", "missing"], (4, "", "igvm: outside fault: shelf\n")
@@ -270,6 +351,9 @@ def rows():
     for files in (["missing", "host"], [".", "host"], ["image", "missing"], ["image", "."]):
         for options in ([], ["--native-zero"], ["--image", "new"]):
             yield ["load", *files, "--platform", "snp", *options], (4, "", "igvm: outside fault: shelf\n")
+    for files in (["missing", "host"], [".", "host"], ["sevs", "missing"], ["sevs", "."]):
+        for wanted in ("sev", "sev_es", "2"):
+            yield ["sev-load", *files, "--platform", wanted], (4, "", "igvm: outside fault: shelf\n")
     for out in (".", "missing/new"):
         yield ["load", "image", "host", "--platform", "snp", "--image", out], (4, "", "igvm: outside fault: shelf\n")
     for pages in (1, 4):
@@ -284,10 +368,17 @@ def rows():
         yield words.split(), vmsas.printed(page)
     # The platform is looked up before HOST is read.
     yield ["load", "image", "missing", "--platform", "0"], (6, "", "igvm: no digest for native\n")
+    yield ["sev-load", "sevs", "missing", "--platform", "3"], (6, "", "igvm: no digest for snp\n")
+    yield ["sev-load", "image", "missing", "--platform", "sev"], (6, "", "igvm: no platform sev\n")
     yield ["build", "image", "new"], (7, "", "igvm: json refused\n")
     yield ["load", "image", "image", "--platform", "snp", "--image", "new"], (7, "", "igvm: json refused\n")
+    yield ["sev-load", "sevs", "sevs", "--platform", "sev"], (7, "", "igvm: json refused\n")
+    yield ["sev-load", "sevs", "list", "--platform", "sev_es"], (7, "", "igvm: json refused: top 0\n")
     yield ["load", "list", "host", "--platform", "snp", "--image", "new"], answer(
         "load", LIST, reader.first_fault(LIST))
+    # FILE is judged before HOST is read.
+    for host in ("host", "missing"):
+        yield ["sev-load", "list", host, "--platform", "sev"], answer("load", LIST, reader.first_fault(LIST))
     yield ["vmsa-build", "image", "new"], (7, "", "igvm: json refused\n")
     yield ["vmsa-build", "list", "new"], (7, "", "igvm: json refused: vmsa 0\n")
     # LIST is judged before ELF is read.
@@ -326,8 +417,8 @@ def read(name):
 def differences(folder):
     """The words that are answered otherwise, each a text, and None for the others."""
     os.chdir(folder)
-    for names, content in ((NAMES, IMAGE), (LIST_NAMES, LIST), (HOST_NAMES, HOST), (TEXT_NAMES, TEXT),
-                           (PAGE_NAMES, RESET), (ELF_NAMES, THREE)):
+    for names, content in ((NAMES, IMAGE), (SEV_NAMES, SEV_IMAGE), (LIST_NAMES, LIST), (HOST_NAMES, HOST),
+                           (TEXT_NAMES, TEXT), (PAGE_NAMES, RESET), (ELF_NAMES, THREE)):
         for name in names:
             with open(name, "wb") as file:
                 file.write(content)
