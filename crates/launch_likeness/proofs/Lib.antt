@@ -1,0 +1,13 @@
+pub mod Steps
+pub mod PagesBy
+pub mod Alike
+pub mod StepAreas
+pub mod StepMeasures
+pub mod StepSevs
+pub mod StepMisfits
+pub mod StepFills
+pub mod StepPages
+pub mod ListData
+pub mod Listed
+pub mod StepWants
+pub mod Launched

@@ -1,0 +1,9 @@
+pub mod LaunchedAlike
+pub use Rattle.list_changes.specs.ListPlatforms
+pub use Rattle.component_list.specs.ImageList
+pub use Rattle.image_builder.specs.Layout
+pub use Rattle.image_loader.specs.PlacedPages
+pub use Rattle.directive_rules.specs.FirstMisfit
+pub use Rattle.igvm_measure.specs.Digests
+pub use Rattle.igvm_measure.specs.WantedDigest
+pub use Rattle.sev_chain.specs.SevBytes

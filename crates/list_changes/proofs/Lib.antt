@@ -1,0 +1,4 @@
+pub mod Bits
+pub mod Kept
+pub mod Walks
+pub mod Numbered
