@@ -1,0 +1,9 @@
+pub mod Parts
+pub mod NewNumbers
+pub mod ListNumbers
+pub mod Joined
+pub mod JoinRefusals
+pub mod InWords
+pub use Rattle.list_changes.specs.Changes
+pub use Rattle.list_changes.specs.ListPlatforms
+pub use Rattle.launch_likeness.specs.LaunchedAlike
