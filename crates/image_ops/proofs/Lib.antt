@@ -1,0 +1,11 @@
+pub mod BuiltLists
+pub mod StrippedValid
+pub mod StrippedPlatforms
+pub mod StrippedSteps
+pub mod StripAnswers
+pub mod StrippedWants
+pub mod SealedValid
+pub mod SealedSteps
+pub mod SealedSize
+pub mod SealedWanted
+pub mod SealAnswers
