@@ -3,8 +3,6 @@
 
 mod sealing;
 mod stripping;
-#[cfg(test)]
-mod tests;
 
 pub use joined_list::{JoinRefusal, join};
 pub use sealing::{SealRefusal, seal};
