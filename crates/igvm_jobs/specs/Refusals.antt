@@ -8,7 +8,7 @@ use Rattle.igvm_jobs.specs.declared.refusal.LimitOf.{LimitOf}
 use Rattle.igvm_jobs.specs.declared.refusal.LimitOf.TheVariants as of
 use Rattle.igvm_jobs.specs.declared.refusal.Refusal.{Refusal}
 use Rattle.igvm_jobs.specs.declared.refusal.Refusal.TheVariants.{File, Shelf, Output, Machine, Memory, Platform, Json, Limit}
-use Rattle.igvm_jobs.specs.Texts.{shelf_text, output_text, machine_text, memory_text, long_file_text, long_list_text, long_host_text, long_blob_text, large_data_text, large_image_text, long_vmsa_text, long_elf_text, many_pages_text}
+use Rattle.igvm_jobs.specs.Texts.{shelf_text, output_text, machine_text, memory_text, long_file_text, long_list_text, long_host_text, long_blob_text, large_data_text, large_image_text, long_vmsa_text, long_elf_text, many_pages_text, many_platforms_text, many_areas_text}
 use Rattle.igvm_jobs.specs.Outcome.{Outcome, refused}
 
 -- ---- a job that puts its text
@@ -46,6 +46,8 @@ limit_text of.Image = large_image_text
 limit_text of.Vmsa = long_vmsa_text
 limit_text of.Elf = long_elf_text
 limit_text of.Pages = many_pages_text
+limit_text of.Platforms = many_platforms_text
+limit_text of.Areas = many_areas_text
 
 -- the line of a refusal
 abbrev pub text_of : Refusal → List ℕ

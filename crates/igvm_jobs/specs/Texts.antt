@@ -2,9 +2,10 @@
 use Rattle.std.specs.Prelude.{ℕ, false, List, [], ◌∷◌, ◌++◌, codes}
 use Rattle.igvm_headers.specs.declared.fault.ReadFault.{ReadFault}
 use Rattle.igvm_headers.specs.declared.fault.ReadWhat.{ReadWhat}
-use Rattle.igvm_headers.specs.declared.fault.ReadWhat.TheVariants.{TooShort, Magic, Version, Aarch64, Architecture, PageSize, TotalSize, Section, Checksum, HeaderCut, UnknownType, Length, Flags, DataType, PlatformType, Order, Mask, Align, AreaLimit, AreaRepeated, AreaUnknown, AreaSize, Wrap, DataOutside, TooManyPages, NoPlatform}
+use Rattle.igvm_headers.specs.declared.fault.ReadWhat.TheVariants.{UnknownType, Flags}
 use Rattle.igvm_headers.specs.declared.platform_kind.PlatformKind.{PlatformKind}
 use Rattle.igvm_headers.specs.PlatformKinds.{kind_text}
+use Rattle.rule_texts.specs.RuleTexts.{rule_words}
 use Rattle.igvm_words.specs.Words.{PlatformChoice, choice_text}
 use Rattle.host_set.specs.declared.refusal.HostPart.{HostPart}
 use Rattle.host_set.specs.declared.refusal.HostPart.TheVariants as host
@@ -23,35 +24,6 @@ line text = text ++ 10 ∷ []
 -- a number of 32 bits as 8 lower-case hexadecimal digits
 abbrev pub eight_digits : ℕ → List ℕ
 eight_digits n = padded_integral (format_spec 32 0 4 8 18446744073709551615) false [] (digits 16 false n)
-
--- the words for a rule, before the number that two of them have
-abbrev pub rule_words : ReadWhat → List ℕ
-rule_words TooShort = codes "too short"
-rule_words Magic = codes "magic"
-rule_words Version = codes "version"
-rule_words Aarch64 = codes "architecture aarch64"
-rule_words Architecture = codes "architecture"
-rule_words PageSize = codes "page size"
-rule_words TotalSize = codes "total size"
-rule_words Section = codes "section"
-rule_words Checksum = codes "checksum"
-rule_words HeaderCut = codes "header cut"
-rule_words (UnknownType kind) = codes "unknown type "
-rule_words Length = codes "length"
-rule_words (Flags bit) = codes "flag bit "
-rule_words DataType = codes "data type"
-rule_words PlatformType = codes "platform type"
-rule_words Order = codes "order"
-rule_words Mask = codes "mask"
-rule_words Align = codes "alignment"
-rule_words AreaLimit = codes "too many areas"
-rule_words AreaRepeated = codes "area repeated"
-rule_words AreaUnknown = codes "area unknown"
-rule_words AreaSize = codes "area size"
-rule_words Wrap = codes "address wraps"
-rule_words DataOutside = codes "data outside"
-rule_words TooManyPages = codes "too many pages"
-rule_words NoPlatform = codes "no platform"
 
 -- the number of a rule that has one
 abbrev pub rule_number : ReadWhat → List ℕ
@@ -127,6 +99,14 @@ long_elf_text = line (codes "igvm: limit: elf")
 -- an image would name more pages than its limit
 abbrev pub many_pages_text : List ℕ
 many_pages_text = line (codes "igvm: limit: pages")
+
+-- an image would have more platforms than its limit
+abbrev pub many_platforms_text : List ℕ
+many_platforms_text = line (codes "igvm: limit: platforms")
+
+-- an image would declare more parameter areas than its limit
+abbrev pub many_areas_text : List ℕ
+many_areas_text = line (codes "igvm: limit: areas")
 
 -- a host description is longer than its limit
 abbrev pub long_host_text : List ℕ

@@ -69,6 +69,10 @@ pub enum LimitOf {
     Elf,
     /// The pages of an image, together.
     Pages,
+    /// The platforms of an image.
+    Platforms,
+    /// The parameter areas of an image.
+    Areas,
 }
 
 impl LimitOf {
@@ -85,6 +89,8 @@ impl LimitOf {
             LimitOf::Vmsa => "igvm: limit: vmsa\n",
             LimitOf::Elf => "igvm: limit: elf\n",
             LimitOf::Pages => "igvm: limit: pages\n",
+            LimitOf::Platforms => "igvm: limit: platforms\n",
+            LimitOf::Areas => "igvm: limit: areas\n",
         }
     }
 }

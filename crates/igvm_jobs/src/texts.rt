@@ -1,47 +1,14 @@
 //! The texts of docs/PROGRAM.md.
 ghost use Rattle.std.specs.Prelude.{◌≡◌, IfOk, string_bytes, length};
-ghost use Rattle.igvm_jobs.specs.Texts.{rule_words, what_text, fault_text, no_platform_text, no_digest_text, digest_text, part_text, host_part_text, not_json_text, field_text, entry_text, built_text};
+ghost use Rattle.igvm_jobs.specs.Texts.{what_text, fault_text, no_platform_text, no_digest_text, digest_text, part_text, host_part_text, not_json_text, field_text, entry_text, built_text};
 ghost use Rattle.igvm_words.specs.JobView.{choice_view};
 
 use component_list::ListPart;
 use host_set::HostPart;
 use igvm_headers::{Digest, PlatformKind, ReadFault, ReadWhat, kind_name};
 use igvm_words::PlatformChoice;
+use rule_texts::rule_words;
 use std::alloc::{AllocError, Global};
-
-/// The words for a rule, before the number that two of them have.
-fn rule_words(what: ReadWhat) -> &'static str
-    ensures { result.now ≡ rule_words what }
-{
-    match what {
-        ReadWhat::TooShort => "too short",
-        ReadWhat::Magic => "magic",
-        ReadWhat::Version => "version",
-        ReadWhat::Aarch64 => "architecture aarch64",
-        ReadWhat::Architecture => "architecture",
-        ReadWhat::PageSize => "page size",
-        ReadWhat::TotalSize => "total size",
-        ReadWhat::Section => "section",
-        ReadWhat::Checksum => "checksum",
-        ReadWhat::HeaderCut => "header cut",
-        ReadWhat::Length => "length",
-        ReadWhat::DataType => "data type",
-        ReadWhat::PlatformType => "platform type",
-        ReadWhat::Order => "order",
-        ReadWhat::Mask => "mask",
-        ReadWhat::Align => "alignment",
-        ReadWhat::AreaLimit => "too many areas",
-        ReadWhat::AreaRepeated => "area repeated",
-        ReadWhat::AreaUnknown => "area unknown",
-        ReadWhat::AreaSize => "area size",
-        ReadWhat::Wrap => "address wraps",
-        ReadWhat::DataOutside => "data outside",
-        ReadWhat::TooManyPages => "too many pages",
-        ReadWhat::NoPlatform => "no platform",
-        ReadWhat::UnknownType { .. } => "unknown type ",
-        ReadWhat::Flags { .. } => "flag bit ",
-    }
-}
 
 /// The text of a rule.
 pub fn what_text(alloc: Global, what: ReadWhat) -> Result<String, AllocError>
