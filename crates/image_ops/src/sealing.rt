@@ -19,11 +19,11 @@ ghost use Rattle.platform_masks.specs.declared.platform.Platform.{Platform};
 
 use component_list::{Component, ComponentList};
 use igvm_headers::{Digest, Header, Options, spelled_is_a_piece};
-use igvm_image::open_image;
+use igvm_image::{ImageView, open_image};
 use igvm_measure::measure_image;
 use image_builder::{BuildRefusal, build, built_is_read_back, layout_has_its_size};
 use list_changes::mask_at;
-use platform_masks::applies;
+use platform_masks::{Platform, applies};
 use std::alloc::Global;
 
 /// Why a list isn't sealed.
@@ -139,7 +139,15 @@ fn digest_of_image(image: &[u8], platform: u32, options: Options) -> Digest
     let Some(found) = view.platforms().by_number(platform) else {
         unreachable!()
     };
-    match measure_image(&view, found, options) {
+    snp_digest(&view, found, options)
+}
+
+/// The launch digest of an image for an SEV-SNP platform.
+fn snp_digest(view: &ImageView<'_>, platform: Platform, options: Options) -> Digest
+    requires { platform.kind ≡ SevSnp }
+    ensures { digest_of view.now platform options ≡ Some result }
+{
+    match measure_image(view, platform, options) {
         Ok(digest) => digest,
         Err(_) => unreachable!(),
     }
