@@ -5,7 +5,7 @@ use Rattle.std.specs.String.{string_bytes}
 use Rattle.std.proofs.Math.Seq.{take-length}
 use Rattle.igvm_words.specs.JobView.{words_view}
 use Rattle.igvm_words.specs.Words.{is_text}
-use Rattle.further_words.specs.FurtherWords.{FurtherJob, further_of, sev_measure_job, sev_load_job, vmsa_build_job, vmsa_print_job, build_elf_job}
+use Rattle.further_words.specs.FurtherWords.{FurtherJob, further_of, sev_measure_job, sev_load_job, vmsa_build_job, vmsa_print_job, build_elf_job, strip_job, join_job, seal_job}
 
 -- ---- the first word
 
@@ -31,49 +31,69 @@ no_words (word ∷ lent) view none = absurd (omega arith)
 
 -- ---- its command
 
--- behind the tests of the five names
-abbrev by_tests : List (List ℕ) → Bool → Bool → Bool → Bool → Bool → Option FurtherJob
-by_tests words measure load build print elf =
+-- behind the tests of the eight names
+abbrev by_tests : List (List ℕ) → Bool → Bool → Bool → Bool → Bool → Bool → Bool → Bool → Option FurtherJob
+by_tests words measure load build print elf strip join seal =
     if measure then sev_measure_job words
     else (if load then sev_load_job words
-    else (if build then vmsa_build_job words else (if print then vmsa_print_job words else (if elf then build_elf_job words else None))))
+    else (if build then vmsa_build_job words
+    else (if print then vmsa_print_job words
+    else (if elf then build_elf_job words
+    else (if strip then strip_job words else (if join then join_job words else (if seal then seal_job words else None)))))))
 
-tested : (command : List ℕ) (words : List (List ℕ)) (measure load build print elf : Bool) → measure ≡ is_text command (codes "sev-measure") → load ≡ is_text command (codes "sev-load")
-    → build ≡ is_text command (codes "vmsa-build") → print ≡ is_text command (codes "vmsa-print") → elf ≡ is_text command (codes "build-elf")
-    → further_of (command ∷ words) ≡ by_tests words measure load build print elf
+tested : (command : List ℕ) (words : List (List ℕ)) (measure load build print elf strip join seal : Bool)
+    → measure ≡ is_text command (codes "sev-measure") → load ≡ is_text command (codes "sev-load") → build ≡ is_text command (codes "vmsa-build") → print ≡ is_text command (codes "vmsa-print")
+    → elf ≡ is_text command (codes "build-elf") → strip ≡ is_text command (codes "strip") → join ≡ is_text command (codes "join") → seal ≡ is_text command (codes "seal")
+    → further_of (command ∷ words) ≡ by_tests words measure load build print elf strip join seal
 unfolding further_of
-tested command words measure load build print elf d e f g h =
-    ap (λ b. by_tests words b (is_text command (codes "sev-load")) (is_text command (codes "vmsa-build")) (is_text command (codes "vmsa-print")) (is_text command (codes "build-elf"))) (sym d)
-    ∙ ap (λ b. by_tests words measure b (is_text command (codes "vmsa-build")) (is_text command (codes "vmsa-print")) (is_text command (codes "build-elf"))) (sym e)
-    ∙ ap (λ b. by_tests words measure load b (is_text command (codes "vmsa-print")) (is_text command (codes "build-elf"))) (sym f)
-    ∙ ap (λ b. by_tests words measure load build b (is_text command (codes "build-elf"))) (sym g) ∙ ap (λ b. by_tests words measure load build print b) (sym h)
+tested command words measure load build print elf strip join seal d e f g h i j k =
+    ap (λ b. by_tests words b (is_text command (codes "sev-load")) (is_text command (codes "vmsa-build")) (is_text command (codes "vmsa-print")) (is_text command (codes "build-elf")) (is_text command (codes "strip")) (is_text command (codes "join")) (is_text command (codes "seal"))) (sym d)
+    ∙ ap (λ b. by_tests words measure b (is_text command (codes "vmsa-build")) (is_text command (codes "vmsa-print")) (is_text command (codes "build-elf")) (is_text command (codes "strip")) (is_text command (codes "join")) (is_text command (codes "seal"))) (sym e)
+    ∙ ap (λ b. by_tests words measure load b (is_text command (codes "vmsa-print")) (is_text command (codes "build-elf")) (is_text command (codes "strip")) (is_text command (codes "join")) (is_text command (codes "seal"))) (sym f)
+    ∙ ap (λ b. by_tests words measure load build b (is_text command (codes "build-elf")) (is_text command (codes "strip")) (is_text command (codes "join")) (is_text command (codes "seal"))) (sym g)
+    ∙ ap (λ b. by_tests words measure load build print b (is_text command (codes "strip")) (is_text command (codes "join")) (is_text command (codes "seal"))) (sym h)
+    ∙ ap (λ b. by_tests words measure load build print elf b (is_text command (codes "join")) (is_text command (codes "seal"))) (sym i)
+    ∙ ap (λ b. by_tests words measure load build print elf strip b (is_text command (codes "seal"))) (sym j)
+    ∙ ap (λ b. by_tests words measure load build print elf strip join b) (sym k)
 
 pub of_none : further_of [] ≡ None
 unfolding further_of
 of_none = refl
 
 pub of_sev_measure : (command : List ℕ) (words : List (List ℕ)) → true ≡ is_text command (codes "sev-measure") → further_of (command ∷ words) ≡ sev_measure_job words
-of_sev_measure command words d = tested command words true _ _ _ _ d refl refl refl refl
+of_sev_measure command words d = tested command words true _ _ _ _ _ _ _ d refl refl refl refl refl refl refl
 
-pub of_sev_load : (command : List ℕ) (words : List (List ℕ)) → false ≡ is_text command (codes "sev-measure") → true ≡ is_text command (codes "sev-load")
-    → further_of (command ∷ words) ≡ sev_load_job words
-of_sev_load command words d e = tested command words false true _ _ _ d e refl refl refl
+pub of_sev_load : (command : List ℕ) (words : List (List ℕ)) → false ≡ is_text command (codes "sev-measure") → true ≡ is_text command (codes "sev-load") → further_of (command ∷ words) ≡ sev_load_job words
+of_sev_load command words d e = tested command words false true _ _ _ _ _ _ d e refl refl refl refl refl refl
 
-pub of_vmsa_build : (command : List ℕ) (words : List (List ℕ)) → false ≡ is_text command (codes "sev-measure") → false ≡ is_text command (codes "sev-load")
-    → true ≡ is_text command (codes "vmsa-build") → further_of (command ∷ words) ≡ vmsa_build_job words
-of_vmsa_build command words d e f = tested command words false false true _ _ d e f refl refl
+pub of_vmsa_build : (command : List ℕ) (words : List (List ℕ)) → false ≡ is_text command (codes "sev-measure") → false ≡ is_text command (codes "sev-load") → true ≡ is_text command (codes "vmsa-build")
+    → further_of (command ∷ words) ≡ vmsa_build_job words
+of_vmsa_build command words d e f = tested command words false false true _ _ _ _ _ d e f refl refl refl refl refl
 
-pub of_vmsa_print : (command : List ℕ) (words : List (List ℕ)) → false ≡ is_text command (codes "sev-measure") → false ≡ is_text command (codes "sev-load")
-    → false ≡ is_text command (codes "vmsa-build") → true ≡ is_text command (codes "vmsa-print")
-    → further_of (command ∷ words) ≡ vmsa_print_job words
-of_vmsa_print command words d e f g = tested command words false false false true _ d e f g refl
+pub of_vmsa_print : (command : List ℕ) (words : List (List ℕ)) → false ≡ is_text command (codes "sev-measure") → false ≡ is_text command (codes "sev-load") → false ≡ is_text command (codes "vmsa-build")
+    → true ≡ is_text command (codes "vmsa-print") → further_of (command ∷ words) ≡ vmsa_print_job words
+of_vmsa_print command words d e f g = tested command words false false false true _ _ _ _ d e f g refl refl refl refl
 
-pub of_build_elf : (command : List ℕ) (words : List (List ℕ)) → false ≡ is_text command (codes "sev-measure") → false ≡ is_text command (codes "sev-load")
-    → false ≡ is_text command (codes "vmsa-build") → false ≡ is_text command (codes "vmsa-print")
-    → true ≡ is_text command (codes "build-elf") → further_of (command ∷ words) ≡ build_elf_job words
-of_build_elf command words d e f g h = tested command words false false false false true d e f g h
+pub of_build_elf : (command : List ℕ) (words : List (List ℕ)) → false ≡ is_text command (codes "sev-measure") → false ≡ is_text command (codes "sev-load") → false ≡ is_text command (codes "vmsa-build")
+    → false ≡ is_text command (codes "vmsa-print") → true ≡ is_text command (codes "build-elf") → further_of (command ∷ words) ≡ build_elf_job words
+of_build_elf command words d e f g h = tested command words false false false false true _ _ _ d e f g h refl refl refl
 
-pub of_another : (command : List ℕ) (words : List (List ℕ)) → false ≡ is_text command (codes "sev-measure") → false ≡ is_text command (codes "sev-load")
-    → false ≡ is_text command (codes "vmsa-build") → false ≡ is_text command (codes "vmsa-print")
-    → false ≡ is_text command (codes "build-elf") → further_of (command ∷ words) ≡ None
-of_another command words d e f g h = tested command words false false false false false d e f g h
+pub of_strip : (command : List ℕ) (words : List (List ℕ)) → false ≡ is_text command (codes "sev-measure") → false ≡ is_text command (codes "sev-load") → false ≡ is_text command (codes "vmsa-build")
+    → false ≡ is_text command (codes "vmsa-print") → false ≡ is_text command (codes "build-elf") → true ≡ is_text command (codes "strip")
+    → further_of (command ∷ words) ≡ strip_job words
+of_strip command words d e f g h i = tested command words false false false false false true _ _ d e f g h i refl refl
+
+pub of_join : (command : List ℕ) (words : List (List ℕ)) → false ≡ is_text command (codes "sev-measure") → false ≡ is_text command (codes "sev-load") → false ≡ is_text command (codes "vmsa-build")
+    → false ≡ is_text command (codes "vmsa-print") → false ≡ is_text command (codes "build-elf") → false ≡ is_text command (codes "strip")
+    → true ≡ is_text command (codes "join") → further_of (command ∷ words) ≡ join_job words
+of_join command words d e f g h i j = tested command words false false false false false false true _ d e f g h i j refl
+
+pub of_seal : (command : List ℕ) (words : List (List ℕ)) → false ≡ is_text command (codes "sev-measure") → false ≡ is_text command (codes "sev-load") → false ≡ is_text command (codes "vmsa-build")
+    → false ≡ is_text command (codes "vmsa-print") → false ≡ is_text command (codes "build-elf") → false ≡ is_text command (codes "strip")
+    → false ≡ is_text command (codes "join") → true ≡ is_text command (codes "seal") → further_of (command ∷ words) ≡ seal_job words
+of_seal command words d e f g h i j k = tested command words false false false false false false false true d e f g h i j k
+
+pub of_another : (command : List ℕ) (words : List (List ℕ)) → false ≡ is_text command (codes "sev-measure") → false ≡ is_text command (codes "sev-load") → false ≡ is_text command (codes "vmsa-build")
+    → false ≡ is_text command (codes "vmsa-print") → false ≡ is_text command (codes "build-elf") → false ≡ is_text command (codes "strip")
+    → false ≡ is_text command (codes "join") → false ≡ is_text command (codes "seal") → further_of (command ∷ words) ≡ None
+of_another command words d e f g h i j k = tested command words false false false false false false false false d e f g h i j k

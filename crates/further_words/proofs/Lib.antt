@@ -1,5 +1,6 @@
 mod TestLemmas
 mod CommandLemmas
+mod ChoiceWords
 mod NumberWords
 mod SevChoiceWords
 mod FurtherLemmas

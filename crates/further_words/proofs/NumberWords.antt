@@ -1,18 +1,12 @@
--- A number and its word, by what a measurement's words mean: there the platform is such a number.
-use Rattle.std.proofs.Common.{◌≡◌, ℕ, ◌^◌, ◌<◌, ◌↔◌, List, [], ◌∷◌, refl, sym, ◌∙◌, ap, Bool, true, false, Option, Some, None}
+-- A number and its word, by what the word of a platform means: it can be such a number.
+use Rattle.std.proofs.Common.{◌≡◌, ℕ, ◌^◌, ◌<◌, List, refl, ◌∙◌, ap, Bool, true, false, Option, Some, None}
 use Rattle.std.specs.Prelude.{codes, if◌then◌else◌}
 use Rattle.std.specs.Option.{option_map}
 use Rattle.std.specs.Fmt.{decimal}
 use Rattle.igvm_headers.specs.declared.platform_kind.PlatformKind.TheVariants.{SevSnp, Tdx}
-use Rattle.igvm_words.specs.Words.{Job, Measure, MeasureWords, PlatformChoice, First, Numbered, is_text, number_of, choice_of, measured_as, job_of}
-use Rattle.igvm_words.specs.WordsOfJob.{Means}
+use Rattle.igvm_words.specs.Words.{First, Numbered, is_text, number_of, choice_of}
 use Rattle.further_words.proofs.TestLemmas.{text_same}
-
--- what `words_of_a_job` says
-abbrev pub WordsOfJobs : Type 0
-WordsOfJobs = (words : List (List ℕ)) (job : Job) → (job_of words ≡ Some job) ↔ Means words job
-
--- ---- a number as a platform
+use Rattle.further_words.proofs.ChoiceWords.{WordsOfJobs, choice_word, choice_back}
 
 -- a text that is no number is not the word of one
 pub other_text : (text word : List ℕ) (n : ℕ) → number_of text ≡ None → number_of word ≡ Some n → is_text word text ≡ false
@@ -48,35 +42,8 @@ number_of_choice : (word : List ℕ) (n : ℕ) → choice_of word ≡ Some (Numb
 unfolding choice_of
 number_of_choice word n h = chosen_by _ _ _ n h
 
--- ---- a measurement for it
-
-abbrev asked : PlatformChoice → MeasureWords
-asked wanted = record { file = codes "f"; wanted = wanted; options = record { native_zero = false } }
-
-abbrev measure_words : List ℕ → List (List ℕ)
-measure_words word = codes "measure" ∷ codes "f" ∷ codes "--platform" ∷ word ∷ []
-
-abbrev measured_if : Option PlatformChoice → Option Job
-measured_if wanted = measured_as (codes "f") wanted (Some (record { native_zero = false }))
-
-job_of_measure : (word : List ℕ) → job_of (measure_words word) ≡ measured_if (choice_of word)
-unfolding job_of
-job_of_measure word = refl
-
-wanted_of : (wanted : Option PlatformChoice) (choice : PlatformChoice) → measured_if wanted ≡ Some (Measure (asked choice)) → wanted ≡ Some choice
-wanted_of None choice h = cc
-wanted_of (Some wanted) choice h =
-    let same : asked wanted ≡ asked choice = cc in
-    ap (λ (words : MeasureWords). Some words.wanted) same
-
 pub number_word : WordsOfJobs → (word : List ℕ) (n : ℕ) → number_of word ≡ Some n → (word ≡ decimal n) × (n < 2 ^ 32)
-number_word words_mean word n h =
-    let means = (words_mean (measure_words word) (Measure (asked (Numbered n)))).0 (job_of_measure word ∙ ap measured_if (number_chosen word n h)) in
-    let same = means.same in
-    (cc, means.possible.1)
+number_word words_mean word n h = choice_word words_mean word (Numbered n) (number_chosen word n h)
 
 pub number_back : WordsOfJobs → (n : ℕ) → n < 2 ^ 32 → number_of (decimal n) ≡ Some n
-number_back words_mean n small =
-    let word = decimal n in
-    let job = (words_mean (measure_words word) (Measure (asked (Numbered n)))).1 (record { possible = (refl, small); same = refl }) in
-    number_of_choice word n (wanted_of (choice_of word) (Numbered n) (sym (job_of_measure word) ∙ job))
+number_back words_mean n small = number_of_choice (decimal n) n (choice_back words_mean (Numbered n) small)

@@ -8,7 +8,8 @@ use Rattle.igvm_words.specs.Words.{PlatformChoice, First, Numbered, choice_text,
 use Rattle.further_words.specs.FurtherWords.{sev_choice_of}
 use Rattle.further_words.specs.WordsOfFurther.{IsSevChoice}
 use Rattle.further_words.proofs.TestLemmas.{text_same, mapped}
-use Rattle.further_words.proofs.NumberWords.{WordsOfJobs, other_text, number_word, number_back}
+use Rattle.further_words.proofs.ChoiceWords.{WordsOfJobs}
+use Rattle.further_words.proofs.NumberWords.{other_text, number_word, number_back}
 
 -- a word is that of a platform that is asked for
 abbrev pub IsSevWord : List ℕ → PlatformChoice → Type 0

@@ -7,5 +7,5 @@ mod sev_choice;
 #[cfg(test)]
 mod tests;
 
-pub use job::{ElfWords, FurtherJob, SevLoadWords, further_of};
+pub use job::{ElfWords, FurtherJob, JoinWords, SealWords, SevLoadWords, StripWords, further_of};
 pub use laws::{words_mean_one_job, words_of_a_further_job};

@@ -20,6 +20,8 @@ struct Asked<'a> {
     command: &'a str,
     /// JSON, FILE or LIST.
     source: &'a str,
+    /// The second FILE.
+    second: &'a str,
     elf: &'a str,
     /// HOST.
     host: &'a str,
@@ -27,6 +29,7 @@ struct Asked<'a> {
     kind: Option<PlatformKind>,
     /// The number of the platform, or MASK.
     number: Option<u32>,
+    native_zero: bool,
     /// OUT.
     target: &'a str,
 }
@@ -34,10 +37,12 @@ struct Asked<'a> {
 const NOTHING: Asked<'static> = Asked {
     command: "",
     source: "",
+    second: "",
     elf: "",
     host: "",
     kind: None,
     number: None,
+    native_zero: false,
     target: "",
 };
 
@@ -77,6 +82,30 @@ fn asked_by<'a>(job: &FurtherJob<'a>) -> Asked<'a> {
             target: words.target,
             ..NOTHING
         },
+        FurtherJob::Strip(words) => Asked {
+            command: "strip",
+            source: words.file,
+            kind: kind_of(words.wanted),
+            number: number_of(words.wanted),
+            target: words.target,
+            ..NOTHING
+        },
+        FurtherJob::Join(words) => Asked {
+            command: "join",
+            source: words.first,
+            second: words.second,
+            target: words.target,
+            ..NOTHING
+        },
+        FurtherJob::Seal(words) => Asked {
+            command: "seal",
+            source: words.file,
+            kind: kind_of(words.wanted),
+            number: number_of(words.wanted),
+            native_zero: words.options.native_zero,
+            target: words.target,
+            ..NOTHING
+        },
     }
 }
 
@@ -95,7 +124,7 @@ fn number_of(wanted: PlatformChoice) -> Option<u32> {
 }
 
 /// Words that mean a further job.
-static JOBS: [(&str, Asked<'static>); 15] = [
+static JOBS: [(&str, Asked<'static>); 27] = [
     (
         "sev-measure FILE --platform sev",
         Asked {
@@ -240,6 +269,128 @@ static JOBS: [(&str, Asked<'static>); 15] = [
             ..NOTHING
         },
     ),
+    (
+        "strip FILE OUT --platform snp",
+        Asked {
+            command: "strip",
+            source: "FILE",
+            kind: Some(PlatformKind::SevSnp),
+            target: "OUT",
+            ..NOTHING
+        },
+    ),
+    (
+        "strip ./-x FILE --platform tdx",
+        Asked {
+            command: "strip",
+            source: "./-x",
+            kind: Some(PlatformKind::Tdx),
+            target: "FILE",
+            ..NOTHING
+        },
+    ),
+    (
+        "strip FILE FILE --platform 0",
+        Asked {
+            command: "strip",
+            source: "FILE",
+            number: Some(0),
+            target: "FILE",
+            ..NOTHING
+        },
+    ),
+    (
+        "strip snp 7 --platform 4294967295",
+        Asked {
+            command: "strip",
+            source: "snp",
+            number: Some(4294967295),
+            target: "7",
+            ..NOTHING
+        },
+    ),
+    (
+        "join FILE ELF OUT",
+        Asked {
+            command: "join",
+            source: "FILE",
+            second: "ELF",
+            target: "OUT",
+            ..NOTHING
+        },
+    ),
+    (
+        "join OUT FILE FILE",
+        Asked {
+            command: "join",
+            source: "OUT",
+            second: "FILE",
+            target: "FILE",
+            ..NOTHING
+        },
+    ),
+    (
+        "join ./-x join 1",
+        Asked {
+            command: "join",
+            source: "./-x",
+            second: "join",
+            target: "1",
+            ..NOTHING
+        },
+    ),
+    (
+        "seal FILE OUT --platform snp",
+        Asked {
+            command: "seal",
+            source: "FILE",
+            kind: Some(PlatformKind::SevSnp),
+            target: "OUT",
+            ..NOTHING
+        },
+    ),
+    (
+        "seal FILE OUT --platform snp --native-zero",
+        Asked {
+            command: "seal",
+            source: "FILE",
+            kind: Some(PlatformKind::SevSnp),
+            native_zero: true,
+            target: "OUT",
+            ..NOTHING
+        },
+    ),
+    (
+        "seal ./-x FILE --platform tdx",
+        Asked {
+            command: "seal",
+            source: "./-x",
+            kind: Some(PlatformKind::Tdx),
+            target: "FILE",
+            ..NOTHING
+        },
+    ),
+    (
+        "seal FILE ./-x --platform 0 --native-zero",
+        Asked {
+            command: "seal",
+            source: "FILE",
+            number: Some(0),
+            native_zero: true,
+            target: "./-x",
+            ..NOTHING
+        },
+    ),
+    (
+        "seal FILE FILE --platform 4294967295",
+        Asked {
+            command: "seal",
+            source: "FILE",
+            number: Some(4294967295),
+            target: "FILE",
+            ..NOTHING
+        },
+    ),
 ];
 
 #[test]
@@ -256,7 +407,7 @@ fn means_the_further_jobs(rt: HostRuntime) -> Result<(), Fail> {
 }
 
 /// Words that mean no further job.
-static OTHERS: [&str; 79] = [
+static OTHERS: [&str; 155] = [
     "build LIST OUT",
     "sev-measure",
     "sev-measure FILE",
@@ -334,6 +485,82 @@ static OTHERS: [&str; 79] = [
     "build-elf LIST ELF 0x1 OUT",
     "build-elf LIST ELF  OUT",
     "build LIST ELF 1 OUT",
+    "strip",
+    "strip FILE",
+    "strip FILE OUT",
+    "strip FILE OUT --platform",
+    "strip FILE OUT snp",
+    "strip FILE --platform snp",
+    "strip FILE --platform snp OUT",
+    "strip --platform snp FILE OUT",
+    "strip -FILE OUT --platform snp",
+    "strip FILE -OUT --platform snp",
+    "strip  OUT --platform snp",
+    "strip FILE  --platform snp",
+    "strip FILE OUT --platform ",
+    "strip FILE OUT --platform=snp",
+    "strip FILE OUT --Platform snp",
+    "strip FILE OUT -platform snp",
+    "strip FILE OUT --platform sev",
+    "strip FILE OUT --platform sev_es",
+    "strip FILE OUT --platform SNP",
+    "strip FILE OUT --platform 00",
+    "strip FILE OUT --platform -1",
+    "strip FILE OUT --platform 4294967296",
+    "strip FILE OUT --platform snp --native-zero",
+    "strip FILE OUT --platform snp OUT",
+    "STRIP FILE OUT --platform snp",
+    "strips FILE OUT --platform snp",
+    "stri FILE OUT --platform snp",
+    "join",
+    "join FILE",
+    "join FILE FILE",
+    "join FILE FILE FILE OUT",
+    "join FILE FILE OUT --native-zero",
+    "join FILE FILE OUT --platform snp",
+    "join -FILE FILE OUT",
+    "join FILE -FILE OUT",
+    "join FILE FILE -OUT",
+    "join FILE FILE -",
+    "join  FILE OUT",
+    "join FILE  OUT",
+    "join FILE FILE ",
+    "Join FILE FILE OUT",
+    "JOIN FILE FILE OUT",
+    "joins FILE FILE OUT",
+    "joi FILE FILE OUT",
+    "FILE join FILE OUT",
+    "seal",
+    "seal FILE",
+    "seal FILE OUT",
+    "seal FILE OUT --platform",
+    "seal FILE OUT --native-zero",
+    "seal FILE OUT snp",
+    "seal FILE --platform snp",
+    "seal FILE --platform snp OUT",
+    "seal FILE OUT --native-zero --platform snp",
+    "seal --platform snp FILE OUT",
+    "seal -FILE OUT --platform snp",
+    "seal FILE -OUT --platform snp",
+    "seal  OUT --platform snp",
+    "seal FILE  --platform snp",
+    "seal FILE OUT --platform ",
+    "seal FILE OUT --Platform snp",
+    "seal FILE OUT --platform sev",
+    "seal FILE OUT --platform sev_es",
+    "seal FILE OUT --platform SNP",
+    "seal FILE OUT --platform 00",
+    "seal FILE OUT --platform 4294967296",
+    "seal FILE OUT --platform snp --Native-Zero",
+    "seal FILE OUT --platform snp --native_zero",
+    "seal FILE OUT --platform snp --native-zero --native-zero",
+    "seal FILE OUT --platform snp --native-zero OUT",
+    "seal FILE OUT --platform snp --image OUT",
+    "seal FILE OUT --platform snp ",
+    "Seal FILE OUT --platform snp",
+    "SEAL FILE OUT --platform snp",
+    "seals FILE OUT --platform snp",
+    "sea FILE OUT --platform snp",
     "",
     " ",
 ];

@@ -6,7 +6,7 @@ use Rattle.igvm_outside.specs.declared.sink.Sink as sinks
 use Rattle.launch_platform.specs.declared.launch.Launch as launches
 use Rattle.sev_platform.specs.declared.sev_launch.SevLaunch as sevs
 use Rattle.igvm_words.specs.Words.{Job, job_of}
-use Rattle.further_words.specs.FurtherWords.{FurtherJob, SevMeasure, SevLoad, VmsaBuild, VmsaPrint, BuildElf, SevLoadWords, further_of, AnyJob, First, Further, either_job, any_job_of}
+use Rattle.further_words.specs.FurtherWords.{FurtherJob, SevMeasure, SevLoad, VmsaBuild, VmsaPrint, BuildElf, Strip, Join, Seal, SevLoadWords, further_of, AnyJob, First, Further, either_job, any_job_of}
 use Rattle.igvm_jobs.specs.declared.refusal.Ended.{Ended}
 use Rattle.igvm_jobs.specs.declared.refusal.Refusal.{Refusal}
 use Rattle.igvm_jobs.specs.declared.status.Status.{Status}
@@ -52,6 +52,9 @@ further_keeps s o e l m (SevLoad words) ending status shelf shelf' out out' err 
 further_keeps s o e l m (VmsaBuild json target) ending status shelf shelf' out out' err err' machine sev sev' h same put = (keeps ending refl (without refl h.by_command.0) same put, h.by_command.1)
 further_keeps s o e l m (VmsaPrint file) ending status shelf shelf' out out' err err' machine sev sev' h same put = (keeps ending refl (without refl h.by_command.0) same put, h.by_command.1)
 further_keeps s o e l m (BuildElf words) ending status shelf shelf' out out' err err' machine sev sev' h same put = (keeps ending refl (without refl h.by_command.0) same put, h.by_command.1)
+further_keeps s o e l m (Strip words) ending status shelf shelf' out out' err err' machine sev sev' h same put = (keeps ending refl (without refl h.by_command.0) same put, h.by_command.1)
+further_keeps s o e l m (Join words) ending status shelf shelf' out out' err err' machine sev sev' h same put = (keeps ending refl (without refl h.by_command.0) same put, h.by_command.1)
+further_keeps s o e l m (Seal words) ending status shelf shelf' out out' err err' machine sev sev' h same put = (keeps ending refl (without refl h.by_command.0) same put, h.by_command.1)
 
 -- ---- all words
 

@@ -6,11 +6,14 @@ use Rattle.igvm_outside.specs.declared.sink.Sink as sinks
 use Rattle.launch_platform.specs.declared.launch.Launch as launches
 use Rattle.sev_platform.specs.declared.sev_launch.SevLaunch as sevs
 use Rattle.igvm_words.specs.Words.{Job}
-use Rattle.further_words.specs.FurtherWords.{FurtherJob, SevMeasure, SevLoad, VmsaBuild, VmsaPrint, BuildElf, AnyJob, First, Further}
+use Rattle.further_words.specs.FurtherWords.{FurtherJob, SevMeasure, SevLoad, VmsaBuild, VmsaPrint, BuildElf, Strip, Join, Seal, AnyJob, First, Further}
 use Rattle.igvm_jobs.specs.declared.status.Status.{Status}
 use Rattle.igvm_jobs.specs.Tasks.{Task, no_task}
 use Rattle.igvm_jobs.specs.Clauses.{KeepsPromises}
 use Rattle.igvm_jobs.specs.Jobs.{task_of}
+use Rattle.operation_jobs.specs.StripJob.{strip_task}
+use Rattle.operation_jobs.specs.JoinJob.{join_task}
+use Rattle.operation_jobs.specs.SealJob.{seal_task}
 use Rattle.igvm_tool.specs.UsageText.{usage_text}
 use Rattle.igvm_tool.specs.SevMeasureJob.{sev_measure_task}
 use Rattle.igvm_tool.specs.SevLoadJob.{sev_load_task}
@@ -25,6 +28,9 @@ further_task (SevLoad words) = sev_load_task words
 further_task (VmsaBuild json target) = vmsa_build_task json target
 further_task (VmsaPrint file) = vmsa_print_task file
 further_task (BuildElf words) = build_elf_task words
+further_task (Strip words) = strip_task words
+further_task (Join words) = join_task words
+further_task (Seal words) = seal_task words
 
 -- of the job that words mean, of the first commands, if they mean one
 abbrev pub words_task : Option Job → Task

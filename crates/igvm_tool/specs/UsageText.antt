@@ -11,5 +11,7 @@ usage_text =
     ++ line (codes "       igvm make N OUT") ++ line (codes "       igvm sev-measure FILE --platform P")
     ++ line (codes "       igvm sev-load FILE HOST --platform P") ++ line (codes "       igvm vmsa-build JSON OUT")
     ++ line (codes "       igvm vmsa-print FILE") ++ line (codes "       igvm build-elf LIST ELF MASK OUT")
+    ++ line (codes "       igvm strip FILE OUT --platform P") ++ line (codes "       igvm join FILE FILE OUT")
+    ++ line (codes "       igvm seal FILE OUT --platform P [--native-zero]")
     ++ line (codes "P is snp, tdx or a platform number")
     ++ line (codes "P of sev-measure and sev-load is sev, sev_es or a platform number")

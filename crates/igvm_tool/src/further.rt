@@ -12,6 +12,7 @@ use further_words::FurtherJob;
 use igvm_jobs::{Ended, Refusal};
 use igvm_outside::{Shelf, Sink};
 use launch_platform::Phase;
+use operation_jobs::{join_files, seal_file, strip_file};
 use sev_platform::SevLaunch;
 use std::alloc::Global;
 
@@ -33,5 +34,8 @@ pub fn do_further<S: Shelf, O: Sink, M: SevLaunch>(
         FurtherJob::VmsaBuild { json, target } => build_vmsa_file(alloc, json, target, shelf, out),
         FurtherJob::VmsaPrint { file } => put_vmsa_text(alloc, file, shelf, out),
         FurtherJob::BuildElf(words) => build_elf_file(alloc, words, shelf, out),
+        FurtherJob::Strip(words) => strip_file(alloc, words, shelf, out),
+        FurtherJob::Join(words) => join_files(alloc, words, shelf, out),
+        FurtherJob::Seal(words) => seal_file(alloc, words, shelf, out),
     }
 }

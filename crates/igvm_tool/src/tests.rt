@@ -1,6 +1,7 @@
 //! Worked examples through `run_all`, over shelves, outputs and machines in memory.
 mod elf_images;
 mod further_faults;
+mod operations;
 mod sev_digests;
 mod sev_loads;
 mod usage;

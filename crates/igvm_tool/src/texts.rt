@@ -12,6 +12,9 @@ usage: igvm build LIST OUT
        igvm vmsa-build JSON OUT
        igvm vmsa-print FILE
        igvm build-elf LIST ELF MASK OUT
+       igvm strip FILE OUT --platform P
+       igvm join FILE FILE OUT
+       igvm seal FILE OUT --platform P [--native-zero]
 P is snp, tdx or a platform number
 P of sev-measure and sev-load is sev, sev_es or a platform number
 ";

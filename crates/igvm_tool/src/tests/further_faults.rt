@@ -1,6 +1,7 @@
 //! Further commands whose shelf or output fails at each call in turn: what is answered, and what OUT holds
 //! then. The shelf gives and takes 1,000 bytes a call, and the output 8.
 use super::elf_images::{ELF, PLATFORM, shelf_with};
+use super::operations::put_images;
 use super::sev_digests::SEV;
 use super::words_of;
 use crate::running::run_all;
@@ -12,7 +13,7 @@ use std::alloc::Global;
 use std::test::Fail;
 
 /// A job: its words, how many calls of the shelf read and how many write, and the text that is put.
-static JOBS: [(&str, u64, u64, &str); 5] = [
+static JOBS: [(&str, u64, u64, &str); 8] = [
     (
         "sev-measure SEV --platform sev",
         3,
@@ -29,11 +30,15 @@ static JOBS: [(&str, u64, u64, &str); 5] = [
     ("vmsa-build JSON OUT", 3, 7, "built 4096 bytes\n"),
     ("vmsa-print PAGE", 7, 0, r#"{"rip":"0xfff0"}"#),
     ("build-elf LIST ELF 1 OUT", 6, 13, "built 8336 bytes\n"),
+    ("strip SNP OUT --platform 0", 3, 3, "built 48 bytes\n"),
+    ("join SNP SNP OUT", 6, 3, "built 72 bytes\n"),
+    ("seal BLOCK OUT --platform snp", 3, 3, "built 784 bytes\n"),
 ];
 
-/// The files of all five. OUT is not there.
+/// The files of all of them. OUT is not there.
 fn shelf_of(alloc: Global) -> Result<MemShelf, Fail> {
     let mut shelf = shelf_with(alloc, PLATFORM, &hex::decode(alloc, ELF)?)?;
+    put_images(alloc, &mut shelf)?;
     shelf.put_file("SEV", &hex::decode(alloc, SEV)?)?;
     shelf.put_file("HOST", br#"{"memory":[{"start":"0x0","bytes":"0x1000"}]}"#)?;
     shelf.put_file("JSON", br#"{"rip":"0xfff0"}"#)?;

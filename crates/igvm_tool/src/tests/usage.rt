@@ -16,12 +16,15 @@ usage: igvm build LIST OUT
        igvm vmsa-build JSON OUT
        igvm vmsa-print FILE
        igvm build-elf LIST ELF MASK OUT
+       igvm strip FILE OUT --platform P
+       igvm join FILE FILE OUT
+       igvm seal FILE OUT --platform P [--native-zero]
 P is snp, tdx or a platform number
 P of sev-measure and sev-load is sev, sev_es or a platform number
 ";
 
 /// Words that mean no job. The image would be accepted.
-static OTHERS: [&str; 13] = [
+static OTHERS: [&str; 16] = [
     "measure FILE",
     "measure --platform snp FILE",
     "measure FILE --platform=snp",
@@ -35,6 +38,9 @@ static OTHERS: [&str; 13] = [
     "vmsa-print FILE OUT",
     "build-elf LIST FILE OUT",
     "build-elf LIST FILE 01 OUT",
+    "strip FILE OUT --platform sev",
+    "join FILE FILE",
+    "seal FILE --platform snp --native-zero",
 ];
 
 const IMAGE: &str = "4947564d01000000180000001800000030000000e5d3ab67\

@@ -1,0 +1,17 @@
+pub mod Outcomes
+pub mod Steps
+pub mod StoredLemmas
+pub mod WantedPlatforms
+pub mod ImageTaskLemmas
+pub mod ImageAnswers
+pub mod StripLemmas
+pub mod StripAnswerLemmas
+pub mod DigestBytes
+pub mod SealOutcomes
+pub mod SealLemmas
+pub mod SealAnswerLemmas
+pub mod FewComponents
+pub mod JoinOutcomes
+pub mod JoinLemmas
+pub mod JoinAnswerLemmas
+pub mod LaunchesAlike

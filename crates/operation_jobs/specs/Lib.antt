@@ -1,0 +1,12 @@
+pub mod StoredData
+pub mod OperationTexts
+pub mod StripJob
+pub mod JoinJob
+pub mod SealJob
+pub mod OperationAnswers
+pub use Rattle.image_ops.specs.Stripped
+pub use Rattle.image_ops.specs.Sealed
+pub use Rattle.joined_list.specs.Joined
+pub use Rattle.igvm_jobs.specs.Tasks
+pub use Rattle.igvm_jobs.specs.Endings
+pub use Rattle.further_words.specs.FurtherView
