@@ -8,7 +8,7 @@ from functools import partial
 
 import images
 from elves import ADDRESS_LIMIT, PAGE_LIMIT, TEXTS
-from images import image_of, platform, row
+from images import platform
 from list_cases import ONE, named, pages
 from records import FIXED_SIZES, LARGE, PAGE
 
@@ -83,10 +83,8 @@ def made(image):
 
 def image_behind(headers, contents, version):
     """An image of these headers behind a platform, each made at the place of the content of its number, or at 0."""
-    first = FIXED_SIZES[version] + len(row([platform(), *(make(0) for make, _ in headers)]))
-    places = [first + sum(map(len, contents[:k])) for k in range(len(contents))]
-    section = row([platform(), *(make(0 if k is None else places[k]) for make, k in headers)])
-    return image_of(section, b"".join(contents), version=version)
+    parts = [make(0) if k is None else (make, k) for make, k in headers]
+    return images.spelled([platform(), *parts], contents, version)
 
 
 def page(gpa, k=None, mask=1, flags=0):

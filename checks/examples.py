@@ -6,10 +6,11 @@ listings, and the digests that examples/README.md has for each image. The plain 
 each list NAME.json, and boot.json in the other version of the format makes an image that only lies 8 bytes further.
 The plain loader gives what the README shows of loading boot.igvm on the host of boot_host.json, whose values then
 stand in the pages of its areas. The plain readers of VMSA texts and ELF files make firmware.vmsa and firmware.igvm.
-Then the program ($IGVM, or crates/igvm_tool/out/igvm_tool) is run by all commands over
-each image, and compared with the plain reader; so it is over further images that are named. It builds the lists,
-boot.json with an ELF file, too, prints boot.vmsa and builds it again, and loads boot.igvm with a pages file, and the
-commands that examples/README.md shows print what stands there. Ends with 77 where the program isn't built.
+changes.py makes joined.igvm, stripped.igvm and sealed.igvm again, and they have the digests of what they are made of.
+Then the program ($IGVM, or crates/igvm_tool/out/igvm_tool) is run by all commands over each image, and compared with
+the plain reader; so it is over further images that are named. It builds the lists, boot.json with an ELF file, too,
+prints boot.vmsa and builds it again, and loads boot.igvm with a pages file, and the commands that examples/README.md
+shows print what stands there and write the images of examples/. Ends with 77 where the program isn't built.
 """
 import json
 import os
@@ -17,19 +18,21 @@ import subprocess
 import sys
 import tempfile
 
+import changes
 import elves
 import reader
 import vmsas
 from answers import COMMANDS, OPTION, answer, words
 from components import built
 from elf_cases import THREE
-from listing import listing
+from listing import PLATFORM_KINDS, listing
 from loader import load
 from program import ROOT, Program, is_built
-from records import headers
+from records import headers, platforms
 
 EXAMPLES = os.path.join(ROOT, "examples")
 LISTS = ("boot", "sparse")
+SHOWN = ("boot", "sparse", "firmware", "joined", "stripped", "sealed")     # the images that README.md shows being made
 LOADED = ("load", "examples/boot.igvm", "examples/boot_host.json", "--platform")
 # The values of boot_host.json, and what they make of the two areas of boot.igvm
 MEMORY_MAP, PROCESSORS, COMMAND_LINE = bytes(9) + b"\x10" + bytes(14), b"\4\0\0\0", b"console=ttyS0"
@@ -72,12 +75,20 @@ def page_faults(name, image, text, table):
         yield f"{name}: README.md has other rows of digests than {list(digest_rows(name, image))}"
 
 
+def words_of(image):
+    """The word of each platform that has a digest: its kind, or its number where an earlier one is of this kind."""
+    kinds = [PLATFORM_KINDS[one.kind] for one in platforms(image)]
+    return [kind if kinds.index(kind) == number else str(number) for number, kind in enumerate(kinds)
+            if kind in ("snp", "tdx")]
+
+
 def digest_rows(name, image):
     """An image's rows of the table: with the option only where it changes the digest."""
-    digests = {wanted: answer(f"measure {wanted}", image, None) for wanted in ("snp", f"snp {OPTION}", "tdx")}
-    for wanted, (status, output, _) in digests.items():
-        if status == 0 and (OPTION not in wanted or digests["snp"][1] != output):
-            yield f"| `{name}` | {wanted} | `{output.strip()}` |"
+    for wanted in words_of(image):
+        digest, other = (answer(f"measure {wanted}{option}", image, None)[1].strip() for option in ("", f" {OPTION}"))
+        yield f"| `{name}` | {wanted} | `{digest}` |"
+        if other != digest:
+            yield f"| `{name}` | {wanted} {OPTION} | `{other}` |"
 
 
 def from_root(name):
@@ -158,7 +169,7 @@ def pages_file_faults():
 
 
 def shown_faults():
-    """Where the commands of README.md print something else than it shows, or build other images in /tmp."""
+    """Where the commands of README.md print something else than it shows, or write other images in /tmp."""
     with tempfile.TemporaryDirectory() as folder:
         program = Program(folder)
         os.chdir(ROOT)
@@ -168,12 +179,12 @@ def shown_faults():
             is_right = got == lines or "..." in lines and agree_around(got, lines)
             if (status, error) != (0, "") or not is_right:
                 yield f"README.md: {' '.join(command)}: the program answers {status}, {output}{error}"
-        for name in LISTS:
+        for name in SHOWN:
             path = os.path.join(folder, f"{name}.igvm")
             if not os.path.exists(path):
-                yield f"README.md: no command that is shown builds {name}.json"
+                yield f"README.md: no command that is shown makes {name}.igvm"
             elif read(path) != read(EXAMPLES, f"{name}.igvm"):
-                yield f"{name}.json: the program builds another image than {name}.igvm"
+                yield f"README.md: the program makes another image than {name}.igvm"
 
 
 def other_version_faults():
@@ -203,6 +214,24 @@ def firmware_faults():
     *_, image = elves.built(read(EXAMPLES, "firmware.json"), from_root, read(EXAMPLES, "firmware.elf"), 3)
     if image != read(EXAMPLES, "firmware.igvm"):
         yield "firmware.json: the plain builder makes another image than firmware.igvm"
+
+
+def change_faults():
+    """Where changes.py makes other images, or what was joined and stripped has other digests than its parts."""
+    boot, sparse, joined, stripped, unsealed, sealed = (read(EXAMPLES, f"{name}.igvm") for name in (
+        "boot", "sparse", "joined", "stripped", "unsealed", "sealed"))
+    for name, made, image in (("joined", changes.join(boot, sparse), joined),
+                              ("stripped", changes.strip(joined, "3"), stripped),
+                              ("sealed", changes.seal(unsealed, "snp", native_zero=False), sealed)):
+        if made != (0, f"built {len(image)} bytes\n", "", image):
+            yield f"{name}.igvm: changes.py answers {made[:3]}, or makes another image"
+    for name, image, wanted, part, own in (
+            ("joined", joined, "0", boot, "snp"), ("joined", joined, "1", boot, "tdx"),
+            ("joined", joined, "3", sparse, "snp"), ("joined", joined, "4", sparse, "tdx"),
+            ("stripped", stripped, "snp", sparse, "snp"), ("sealed", sealed, "snp", unsealed, "snp")):
+        for option in ("", f" {OPTION}"):
+            if answer(f"measure {wanted}{option}", image, None) != answer(f"measure {own}{option}", part, None):
+                yield f"{name}.igvm: --platform {wanted}{option}: another digest than that of what it is made of"
 
 
 def further_faults():
@@ -257,7 +286,7 @@ def main():
     for name in LISTS:
         faults += list_faults(name)
     faults += [*version_faults(built(in_version_2(), from_root)[3]), *load_faults(), *vmsa_faults(),
-               *firmware_faults()]
+               *firmware_faults(), *change_faults()]
     if is_built():
         faults += [*program_faults(paths), *shown_faults(), *other_version_faults(), *pages_file_faults(),
                    *further_faults()]

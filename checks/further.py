@@ -13,12 +13,8 @@ built after status 0 and is as it was after any other, and nothing else has chan
 behind the other, and words that mean no job, have the answers of a table alone. Ends with 77 where the program isn't
 built; the plain ones are compared with the tables before that.
 """
-import argparse
-import multiprocessing
-import os
 import random
 import sys
-import tempfile
 from collections import Counter
 
 import elf_cases
@@ -27,10 +23,9 @@ import vmsa_cases
 import vmsas
 from elf_cases import THREE
 from elves import TEXTS as FAULTS
-from further_cases import FOLDER, elf_steps, refused_words, vmsa_steps, wrong_lists
+from further_cases import elf_steps, refused_words, vmsa_steps, wrong_lists
 from further_jobs import COMMON, RARE, kind_of, page_jobs, pair_jobs, text_jobs
-from named_files import lay_out, read, write
-from program import Program, is_built, shared_memory
+from jobs import SHOWN_TEXT, Check, main
 from random_elves import broken, broken_by, broken_twice
 from random_lists import FILES
 from random_pairs import (crowded, fitting, past_the_image, too_long_blob, too_long_file, with_file, with_list,
@@ -40,7 +35,6 @@ from random_vmsas import (any_text, broken_longest, broken_too_long, dense_page,
 from vmsas import KEYS
 
 SEED, LEAST, FEW = 20240229, 10, 3  # how many cases have to meet each of COMMON, and each of RARE
-SHOWN, SHOWN_TEXT = 10, 60          # differences that are printed, and characters of an answer
 # What makes a text, a page, or a pair of a list and an ELF file, and how many; what takes long comes first.
 TEXTS = ((longest, 4), (broken_longest, 3), (too_long, 10), (broken_too_long, 3), (right, 700), (any_text, 350),
          (no_json, 250), *((refused_at(place), 32) for place in range(len(KEYS) + 1)))
@@ -88,135 +82,11 @@ def wrong_answers():
             yield f"pair {at}: elves.py answers {got[:3]}, the table {case.answer}, or makes another image"
 
 
-def wrong_answer_list():
-    return list(wrong_answers())
-
-
-# The runs
-
-class Bench:
-    """Does jobs in a folder of its own; there is one in each process."""
-
-    def __init__(self, folder):
-        self.program = Program(folder)
-        os.mkdir(os.path.join(folder, "files"))
-        os.chdir(os.path.join(folder, "files"))
-        lay_out()
-        os.mkdir(FOLDER)
-
-    def differences(self, job):
-        """What the program answers or writes otherwise."""
-        for name in os.listdir(FOLDER):
-            os.remove(os.path.join(FOLDER, name))
-        for name, content in job.files.items():
-            write(name, content)
-        others = other_files(job)
-        got = self.program.run(job.words)
-        if got != job.answer:
-            yield difference(got, job.answer)
-        if other_files(job) != others:
-            yield "another file has changed"
-        files = {**job.files, job.out: job.written} if job.out else job.files
-        for name in sorted({*files, *(os.path.join(FOLDER, name) for name in os.listdir(FOLDER))}):
-            found = read(name)
-            if found != files.get(name):
-                yield f"the file `{name}` differs: it has {size(found)}, expected {size(files.get(name))}"
-        for name in job.files.keys() & FILES.keys():
-            write(name, FILES[name])
-
-    def do(self, number):
-        """How many runs there were, texts on those that differ, and what was met."""
-        jobs, met = numbered(number)
-        return len(jobs), [f"{called(job.words)}: {text}; to have the files: checks/further.py --write {number} FOLDER"
-                           for job in jobs for text in self.differences(job)], met
-
-
-def other_files(job):
-    """The files beside the job's, each with its size and when it was written."""
-    return {one.name: (one.stat().st_size, one.stat().st_mtime_ns) for one in os.scandir() if one.is_file()
-            and one.name not in job.files}
-
-
-def size(content):
-    return "no name" if content is None else f"{len(content)} bytes"
-
-
-def called(words):
-    return " ".join(word if word.isprintable() and word else ascii(word) for word in words)
-
-
-def difference(got, want):
-    """Status and error of both, and the outputs from the first character on that is another."""
-    at = len(os.path.commonprefix([got[1], want[1]]))
-    found, wanted = ((one[0], one[1][at:at + SHOWN_TEXT], one[2][:2 * SHOWN_TEXT]) for one in (got, want))
-    return f"the program answers {found}, expected {wanted}" + (f", the outputs from character {at} on" if at else "")
-
-
-def set_up(folder):
-    """Makes this process's bench."""
-    global bench
-    bench = Bench(tempfile.mkdtemp(dir=folder))
-
-
-def do(number):
-    return bench.do(number)
-
-
 def counts():
     kinds = Counter(jobs_of for jobs_of, *_ in (*MAKERS, *KNOWN))
     return f"{kinds[text_jobs]} texts, {kinds[page_jobs]} pages, {kinds[pair_jobs]} pairs, {len(TOLD)} jobs that are told"
 
 
-def write_files(number, folder):
-    """Lays out the files of the first job and what it writes, and tells of all."""
-    if number >= COUNT:
-        print(f"further: there are no jobs {number}")
-        return 1
-    os.makedirs(os.path.join(folder, FOLDER), exist_ok=True)
-    os.chdir(folder)
-    lay_out()
-    jobs, _ = numbered(number)
-    for name, content in jobs[0].files.items():
-        write(name, content)
-    if jobs[0].out:
-        write("expected", jobs[0].written)
-    for job in jobs:
-        print(f"further: {called(job.words)}: by the plain ones {difference(job.answer, job.answer)}")
-    return 0
-
-
-def compare():
-    """What the processes find together, and the line of counts."""
-    differing, met, runs = [], Counter(), 0
-    with tempfile.TemporaryDirectory(dir=shared_memory()) as folder:
-        with multiprocessing.Pool(min(4, os.cpu_count() or 1), set_up, (folder,)) as pool:
-            wrong = pool.apply_async(wrong_answer_list)
-            for its_runs, its_differing, its_met in pool.imap(do, range(COUNT), chunksize=8):
-                runs += its_runs
-                differing += its_differing
-                met.update(its_met)
-            faults = wrong.get()
-    faults += differing[:SHOWN]
-    faults += [f"{met[name]} have met, of {least}: {name}" for names, least in ((COMMON, LEAST), (RARE, FEW))
-               for name in names if met[name] < least]
-    for fault in faults:
-        print(f"further: {fault}")
-    print(f"further: {counts()}, {runs} runs, {len(differing)} differ")
-    return 1 if faults else 0
-
-
-def main():
-    arguments = argparse.ArgumentParser(description="the program and plain ones on VMSA pages and on ELF files")
-    arguments.add_argument("--write", nargs=2, metavar=("NUMBER", "FOLDER"))
-    options = arguments.parse_args()
-    if options.write:
-        return write_files(int(options.write[0]), options.write[1])
-    if not is_built():
-        faults = wrong_answer_list()
-        print("\n".join(f"further: {text}" for text in (*faults, "skipped, the program isn't built")))
-        return 1 if faults else 77
-    return compare()
-
-
 if __name__ == "__main__":
-    sys.exit(main())
+    sys.exit(main(Check("further", COUNT, numbered, wrong_answers, counts, ((COMMON, LEAST), (RARE, FEW))),
+                  "the program and plain ones on VMSA pages and on ELF files"))

@@ -3,34 +3,18 @@
 And lists that are refused in one way each, to stand before any ELF file, with the answers.
 """
 import json
-from collections import namedtuple
 from itertools import product
 
 from components import LIST_MOST
 from elf_cases import THREE, THREE_PAGES, elf, list_of, made, of_pages
+from jobs import FOLDER, NEW, NO_FILES, OLD, OUT, OUTS, SHELF, Job, ended, told
 from list_cases import HUGE, LEAST, ONE, area, insert, named, pages
 from program import usage
 from random_lists import AREA_MOST, TOP
 from records import PAGE
 from vmsa_cases import RESET, RESET_TEXT
 
-# What a job reads and writes lies in a folder beside the files that lists name.
-FOLDER = "job"
-JSON, FILE, LIST, ELF, OUT, NEW = (f"{FOLDER}/{name}" for name in ("json", "page", "list", "elf", "out", "new"))
-OLD = b"what was there before"
-
-# The words, the files that are there before; status, output and error; OUT with what it holds then, or None where all
-# files are as they were.
-Job = namedtuple("Job", "words files answer out written")
-
-
-def ended(status, error):
-    return status, "", f"igvm: {error}\n"
-
-
-SHELF = ended(4, "outside fault: shelf")
-NO_FILES = tuple((name, None, SHELF) for name in ("missing", "folder", "folder/none", "x" * 300))
-OUTS = ((OUT, None), (NEW, None), ("folder", SHELF), ("missing/new", SHELF))
+JSON, FILE, LIST, ELF = (f"{FOLDER}/{name}" for name in ("json", "page", "list", "elf"))
 
 
 # Lists
@@ -113,20 +97,16 @@ def with_old(**files):
 
 def elf_steps():
     """`build-elf` with every list, every ELF file and every OUT."""
-    answer, image = made(of_pages(THREE_PAGES, 1, 1))
+    _, image = made(of_pages(THREE_PAGES, 1, 1))
     for (text_name, text, *answers), (elf_name, file, elf_answer), (out, out_answer) in product(LISTS, ELFS, OUTS):
         answers += [elf_answer, ended(8, "limit: pages") if text == FULL else None, out_answer]
-        refusal = next((one for one in answers if one), None)
-        yield Job(["build-elf", text_name, elf_name, "1", out], with_old(list=text, elf=file), refusal or answer,
-                  *((None, None) if refusal else (out, image)))
+        yield told(["build-elf", text_name, elf_name, "1", out], with_old(list=text, elf=file), answers, out, image)
 
 
 def vmsa_steps():
     """`vmsa-build` with every text and every OUT, and `vmsa-print` with what it refuses."""
     for (name, text, text_answer), (out, out_answer) in product(TEXTS, OUTS):
-        refusal = text_answer or out_answer
-        yield Job(["vmsa-build", name, out], with_old(json=text), refusal or (0, f"built {PAGE} bytes\n", ""),
-                  *((None, None) if refusal else (out, RESET)))
+        yield told(["vmsa-build", name, out], with_old(json=text), (text_answer, out_answer), out, RESET)
     for name, file, answer in FILES:
         yield Job(["vmsa-print", name], with_old(page=file), answer, None, None)
 

@@ -10,10 +10,11 @@ import vmsas
 from answers import OPTION, answer, words
 from components import PAGES_MOST
 from elves import ADDRESS_LIMIT, PAGE_LIMIT, SEGMENT_LIMIT, TEXTS, judged
-from further_cases import ELF, FILE, JSON, LIST, NEW, OLD, OUT, Job
+from further_cases import ELF, FILE, JSON, LIST
+from jobs import NEW, OLD, OUT, Job
 from list_cases import HUGE
 from named_files import Huge, read
-from random_lists import FILES, TOP
+from random_lists import FILES
 from reader import Before, first_fault
 from records import FIXED_SIZES, PAGE, fixed, headers, platforms
 from vmsas import KEYS, OTHER, PARTS, SIZE, TEXT_MOST

@@ -80,3 +80,14 @@ def image_of(section, data=b"", gap=b"", size=None, total=None, version=1, machi
     whole = offset + len(section) + len(data) if total is None else total
     fixed = fixed_header(version, offset, len(section) if size is None else size, whole, machine=machine)
     return mended(fixed + gap + section + data)
+
+
+def spelled(parts, contents=(), version=1):
+    """An image of these headers, and the contents behind them.
+
+    A header that is a pair is made with the place of the content of that number.
+    """
+    first = FIXED_SIZES[version] + len(row([part if isinstance(part, bytes) else part[0](0) for part in parts]))
+    places = [first + sum(map(len, contents[:k])) for k in range(len(contents))]
+    section = row([part if isinstance(part, bytes) else part[0](places[part[1]]) for part in parts])
+    return image_of(section, b"".join(contents), version=version)

@@ -4,6 +4,7 @@ Nothing here judges: what a broken file gives is any answer, or an exception. Th
 """
 import struct
 from collections import namedtuple
+from functools import cached_property, lru_cache
 
 PAGE, LARGE = 4096, 2097152
 FIXED_SIZES = {1: 24, 2: 32}        # by the version, how many bytes the fixed header has
@@ -42,7 +43,7 @@ Fixed = namedtuple("Fixed", "version offset size total checksum")
 class Header(namedtuple("Header", "place type content")):
     """One variable header: its file offset, its type and its content."""
 
-    @property
+    @cached_property
     def name(self):
         """Which header it is, or None for an unknown type."""
         return "Carried" if self.type >= 0x80000000 else TYPES.get(self.type, (None, None))[0]
@@ -52,7 +53,7 @@ class Header(namedtuple("Header", "place type content")):
         """The class that the rule Order goes by, or None where the type has none."""
         return TYPES.get(self.type, (None, None))[1]
 
-    @property
+    @cached_property
     def fields(self):
         """The fields by name; None for a carried header. The length must be one that the type allows."""
         if self.name not in LAYOUTS:
@@ -81,8 +82,12 @@ def covered(file):
     return file[:20] + bytes(4) + file[24:fixed_size(file)] + file[offset:offset + size]
 
 
+@lru_cache(maxsize=4)
 def split(file):
-    """The section's headers in file order, and the place of its cut rest or None."""
+    """The section's headers in file order, and the place of its cut rest or None.
+
+    It is asked again and again of a file, so those of the last few are kept.
+    """
     _, at, size, _, _ = fixed(file)
     end, found = at + size, []
     while end - at:

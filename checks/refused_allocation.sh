@@ -64,6 +64,11 @@ JOBS=(
     'vmsa-build vmsa.json out'
     'vmsa-print examples/boot.vmsa'
     'build-elf examples/boot.json elf 7 out'
+    'sev-measure sev.igvm --platform sev_es'
+    'sev-load sev.igvm sev_host.json --platform sev_es'
+    'strip examples/joined.igvm out --platform 3'
+    'join examples/boot.igvm examples/sparse.igvm out'
+    'seal examples/unsealed.igvm out --platform snp'
 )
 SHOWN=10        # faults that are printed
 runs=0 faults=0 wanting=0 needless=0
@@ -127,6 +132,19 @@ elf_file() {
     printf '\336\255\276\357'
 }
 
+# The list of a guest for SEV-ES with an area, a large page and a context, and a host for it.
+sev_list() {
+    printf '%s' '{"platforms":[{"kind":"sev_es","mask":1}],"directives":[{"do":"area","index":0,"bytes":8192},'
+    printf '%s' '{"do":"param","kind":"command_line","area":0,"offset":0},'
+    printf '%s' '{"do":"insert","mask":1,"gpa":"0x1000","area":0},'
+    printf '%s' '{"do":"zero","mask":1,"gpa":"0x200000","count":1,"large":true},'
+    printf '%s' '{"do":"context","mask":1,"gpa":"0xfffffffff000","vp":0}]}'
+}
+sev_host() {
+    printf '%s' '{"memory":[{"start":"0x0","bytes":"0x100000"},{"start":"0x200000","bytes":"0x200000"}],'
+    printf '%s' '"values":{"command_line":"636f6e736f6c65"}}'
+}
+
 fault() {
     faults=$((faults + 1))
     [ "$faults" -gt "$SHOWN" ] || echo "refused allocation: $1"
@@ -171,7 +189,8 @@ refuse_each() {
 try_program() {
     local job
     [ -x "$program" ] || { skipped "for the program, it isn't built"; return; }
-    cd -- "$folder" && ln -s -- "$root/examples" examples && vmsa_text >vmsa.json && elf_file >elf || return 1
+    cd -- "$folder" && ln -s -- "$root/examples" examples && vmsa_text >vmsa.json && elf_file >elf &&
+        sev_list >list && sev_host >sev_host.json && "$program" build list sev.igvm >/dev/null || return 1
     if ! library | "${CC:-cc}" -shared -fPIC -O1 -o refusing.so -x c - 2>compiling; then
         skipped "for the program, no compiler makes the library"
         return

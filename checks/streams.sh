@@ -13,7 +13,8 @@ fi
 
 folder=$(mktemp -d) || exit 1
 trap 'rm -rf -- "$folder"' EXIT
-cp -- "$root"/examples/guest.* "$root"/examples/boot.igvm "$folder" && mkdir "$folder/examples" &&
+cp -- "$root"/examples/{guest.*,{boot,sparse,joined,stripped,unsealed,sealed}.igvm} "$folder" &&
+    mkdir "$folder/examples" &&
     cp -- "$root"/examples/boot.* "$folder/examples" && ln -s -- "$program" "$folder/igvm" && cd -- "$folder" || exit 1
 head -c 23 guest.igvm >short
 mkfifo pipe
@@ -190,6 +191,100 @@ ends 0 '' 'cmp out made >&2'
 ends 0 '' 'cp list self; ./igvm build-elf self elf 1 self >/dev/null && cmp self made >&2'
 ends 0 '' 'cp elf self; ./igvm build-elf list self 1 self >/dev/null && cmp self made >&2'
 ends 2 '' './igvm build-elf 2>/dev/full'
+# A launch for SEV of one page of zeros: its digest is the page's.
+echo '{"platforms":[{"kind":"sev","mask":1}],"directives":[{"do":"zero","mask":1,"gpa":"0x1000","count":1}]}' >list
+echo '{"memory":[{"start":"0x0","bytes":"0x10000"}]}' >host
+echo '{"memory":[{"start":"0x0","bytes":"0x1000"}]}' >small_host
+./igvm build list sev.igvm >/dev/null
+truncate -s 536870913 too_long
+{ echo 'loaded 1 pages, 0 contexts'; echo "digest $(zeros 4096 | sha256sum | head -c 64)"; } >loaded
+load='./igvm sev-load sev.igvm host --platform sev'
+ends 0 '' "$load | cmp - loaded >&2"
+for closed in '>&-' '>/dev/full'; do
+    ends 4 "$output" "$load $closed"
+    ends 4 '' "$load $closed 2>&-"
+    # What doesn't fit is put on standard output, too.
+    ends 4 "$output" "./igvm sev-load sev.igvm small_host --platform sev $closed"
+    ends 1 'igvm: file refused at 23: too short' "./igvm sev-load short host --platform sev $closed"
+    ends 4 "$shelf" "./igvm sev-load missing host --platform sev $closed"
+    ends 4 "$shelf" "./igvm sev-load sev.igvm missing --platform sev $closed"
+    ends 6 'igvm: no platform sev_es' "./igvm sev-load sev.igvm host --platform sev_es $closed"
+    ends 7 'igvm: json refused' "./igvm sev-load sev.igvm broken --platform sev $closed"
+done
+ends 4 "$output" "set -o pipefail; { sleep 0.2; $load; } | true"
+ends 4 "$output" "trap '' PIPE; set -o pipefail; { sleep 0.2; $load; } | true"
+ends 0 '' "$load >/dev/null 2>&- <&-"
+ends 3 '' './igvm sev-load sev.igvm small_host --platform sev >/dev/null 2>&-'
+ends 0 '' 'cat sev.igvm | ./igvm sev-load /dev/stdin host --platform sev | cmp - loaded >&2'
+ends 0 '' 'cat host | ./igvm sev-load sev.igvm /dev/stdin --platform 0 | cmp - loaded >&2'
+ends 0 '' 'timeout 10 bash -c "cat host >pipe" & ./igvm sev-load sev.igvm pipe --platform sev | cmp - loaded >&2'
+# HOST is opened only where FILE is right and has the platform: else the program would wait for a writer.
+ends 1 'igvm: file refused at 23: too short' './igvm sev-load short pipe --platform sev'
+ends 4 "$shelf" './igvm sev-load missing pipe --platform sev'
+ends 6 'igvm: no platform 1' './igvm sev-load sev.igvm pipe --platform 1'
+ends 6 'igvm: no digest for snp' './igvm sev-load boot.igvm pipe --platform 0'
+ends 8 'igvm: limit: host' './igvm sev-load sev.igvm /dev/zero --platform sev'
+ends 2 '' './igvm sev-load 2>/dev/full'
+
+# changes JOB IMAGE: the job, in which OUT stands in its place, writes this image and puts its size.
+changes() {
+    local job=$1 image=$2 size closed
+    size=$(stat -c %s -- "$image")
+    to() { echo "./igvm ${job/OUT/$1}"; }
+    ends 0 '' "$(to out) | grep -Fxq 'built $size bytes' && cmp out $image >&2"
+    for closed in '>&-' '>/dev/full'; do
+        ends 4 "$output" "rm -f out; $(to out) $closed"
+        ends 0 '' "cmp out $image >&2"
+        ends 4 "$shelf" "$(to /dev/full) $closed"
+    done
+    ends 4 "$output" "rm -f out; set -o pipefail; { sleep 0.2; $(to out); } | true"
+    ends 0 '' "cmp out $image >&2 && $(to out) >/dev/null 2>&-"
+    ends 4 "$shelf" "$(to /dev/full)"
+    ends 4 "$shelf" "$(to examples) >/dev/full"
+    ends 4 '' "$(to /dev/full) 2>/dev/full"
+    ends 4 "$shelf" "trap '' XFSZ; ulimit -f 4; $(to out)"
+    ends 0 '' "head -c 4096 $image | cmp - out >&2"
+    ends 0 '' "$(to link) >/dev/null && [ -L link ] && cmp long $image >&2"
+    ends 0 '' "{ cat $image; echo 'built $size bytes'; } >both; $(to /dev/stdout) | cmp - both >&2"
+    ends 0 '' "$(to pipe) >/dev/null & cat pipe | cmp - $image >&2"
+    ends 2 '' "./igvm ${job%% *} 2>/dev/full"
+}
+
+# reads JOB IMAGE FILE: the same where the file that stands as FILE in the job comes by a pipe, or is OUT.
+reads() {
+    local job=$1 image=$2 file=$3
+    ends 0 '' "cat $file | ./igvm ${job/FILE//dev/stdin} >/dev/null && cmp out $image >&2"
+    ends 0 '' "timeout 10 bash -c 'cat $file >pipe' & ./igvm ${job/FILE/pipe} >/dev/null && cmp out $image >&2"
+    job=${job/FILE/self}
+    ends 0 '' "cp $file self; ./igvm ${job/out/self} >/dev/null && cmp self $image >&2"
+}
+
+changes 'strip joined.igvm OUT --platform 3' stripped.igvm
+reads 'strip FILE out --platform 3' stripped.igvm joined.igvm
+changes 'join boot.igvm sparse.igvm OUT' joined.igvm
+reads 'join FILE sparse.igvm out' joined.igvm boot.igvm
+reads 'join boot.igvm FILE out' joined.igvm sparse.igvm
+changes 'seal unsealed.igvm OUT --platform snp' sealed.igvm
+reads 'seal FILE out --platform snp' sealed.igvm unsealed.igvm
+# What is refused leaves OUT as it was, whether its line can be put or not.
+cp long out
+for closed in '>&-' '>/dev/full'; do
+    for job in {strip,seal}' FILE out --platform 9' 'join '{'FILE boot.igvm','boot.igvm FILE'}' out'; do
+        ends 1 'igvm: file refused at 23: too short' "./igvm ${job/FILE/short} $closed"
+        ends 1 '' "./igvm ${job/FILE/short} 2>/dev/full"
+        ends 4 "$shelf" "./igvm ${job/FILE/missing} $closed"
+        ends 8 'igvm: limit: file' "./igvm ${job/FILE/too_long} $closed"
+    done
+    ends 6 'igvm: no platform 9' "./igvm strip joined.igvm out --platform 9 $closed"
+    ends 6 'igvm: no platform 9' "./igvm seal joined.igvm out --platform 9 $closed"
+    ends 6 'igvm: no seal for tdx' "./igvm seal joined.igvm out --platform tdx $closed"
+    ends 6 'igvm: no id block' "./igvm seal joined.igvm out --platform snp $closed"
+done
+ends 6 '' './igvm seal joined.igvm out --platform 9 2>&-'
+# SECOND is opened only where FIRST is right: else the program would wait for a writer.
+ends 1 'igvm: file refused at 23: too short' './igvm join short pipe out'
+ends 4 "$shelf" './igvm join missing pipe out'
+ends 0 '' 'cmp out long >&2'
 # LIST itself, and a file that it names, may be written.
 ends 0 '' "cp examples/boot.json self; ./igvm build self self >/dev/null && cmp self boot.igvm >&2"
 ends 0 '' "$build examples/boot.pages >/dev/null && cmp examples/boot.pages boot.igvm >&2"

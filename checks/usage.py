@@ -3,13 +3,14 @@
 
 Each row of words is run in a folder where a small image with three platforms lies under several names, one for SEV and
 SEV-ES and a list of one platform under others, and a host description, a VMSA page, its text and an ELF file under
-others again. What `make` writes is maker.py's image. The usage text is read from the page; it has a line for each of
-FORMS, and then those of ON_P. Ends with 77 where the program isn't built.
+others again, and so does an image with an ID block. What `make` writes is maker.py's image. The usage text is read from
+the page; it has a line for each of FORMS, and then those of ON_P. Ends with 77 where the program isn't built.
 """
 import os
 import sys
 import tempfile
 
+import changes
 import elves
 import images
 import reader
@@ -24,7 +25,8 @@ from vmsa_cases import RESET, RESET_TEXT
 
 FORMS = ("build LIST OUT", "print FILE", "measure FILE --platform P [--native-zero]",
          "load FILE HOST --platform P [--native-zero] [--image OUT]", "make N OUT", "sev-measure FILE --platform P",
-         "sev-load FILE HOST --platform P", "vmsa-build JSON OUT", "vmsa-print FILE", "build-elf LIST ELF MASK OUT")
+         "sev-load FILE HOST --platform P", "vmsa-build JSON OUT", "vmsa-print FILE", "build-elf LIST ELF MASK OUT",
+         "strip FILE OUT --platform P", "join FILE FILE OUT", "seal FILE OUT --platform P [--native-zero]")
 ON_P = ["P is snp, tdx or a platform number", "P of sev-measure and sev-load is sev, sev_es or a platform number"]
 PLATFORMS = ((1, 0), (2, 3), (4, 2))           # mask and platform type: native, tdx, snp
 IMAGE = images.image_of(images.row([*(images.platform(*one) for one in PLATFORMS), images.page(0x1000, mask=6)]))
@@ -93,6 +95,40 @@ ELF_BUILDING = (*((f"build-elf build elf {mask} out", mask, "out") for mask in (
                 ("build-elf build build-elf 1 made", 1, "made"), ("build-elf ./-list ./-elf 1 ./-out", 1, "-out"),
                 ("build-elf build 1 1 2", 1, "2"), ("build-elf build 0 1 1", 1, "1"), ("build-elf build 0 0 0", 0, "0"),
                 ("build-elf build elf 7 elf", 7, "elf"), ("build-elf build build-elf 1 build", 1, "build"))
+# An image whose ID block counts for two SEV-SNP platforms, which have other digests, with the option others again
+BLOCK = images.image_of(images.row([
+    *(images.platform(*one) for one in ((1, 2), (2, 3), (4, 2), (8, 4))), images.page(0x1000, mask=5),
+    images.page(0x2000, mask=4), images.id_block(mask=5)]))
+BLOCK_NAMES = ("block", "-block", "strip", "join", "seal")      # that image's, all the same
+# words that strip the image, P, and the file that they write; the last one writes over FILE
+STRIPPING = (
+    *((f"strip block out --platform {wanted}", wanted, "out") for wanted in ("snp", "tdx", "0", "1", "2", "3")),
+    ("strip strip made --platform snp", "snp", "made"), ("strip ./-block ./-out --platform 2", "2", "-out"),
+    ("strip join snp --platform tdx", "tdx", "snp"), ("strip seal 0 --platform 0", "0", "0"),
+    ("strip strip strip --platform 3", "3", "strip"))
+# words that join two images, these images, and the file that they write; the last ones write over the files read
+JOINING = (
+    ("join block sevs out", BLOCK, SEV_IMAGE, "out"), ("join sevs block out", SEV_IMAGE, BLOCK, "out"),
+    ("join block block made", BLOCK, BLOCK, "made"), ("join join join ./-out", BLOCK, BLOCK, "-out"),
+    ("join ./-block ./-sevs made", BLOCK, SEV_IMAGE, "made"), ("join seal sev snp", BLOCK, SEV_IMAGE, "snp"),
+    ("join sev-load join sev-load", SEV_IMAGE, BLOCK, "sev-load"), ("join sev join join", SEV_IMAGE, BLOCK, "join"))
+# words that seal the image, P and whether `--native-zero` is among them, and the file that they write; the last one
+# writes over FILE
+SEALING = (
+    *((f"seal block out --platform {wanted}", wanted, False, "out") for wanted in ("snp", "0", "2")),
+    *((f"seal block out --platform {wanted} --native-zero", wanted, True, "out") for wanted in ("snp", "0", "2")),
+    ("seal ./-block ./-out --platform 2 --native-zero", "2", True, "-out"),
+    ("seal seal made --platform 2", "2", False, "made"), ("seal ./-block snp --platform snp", "snp", False, "snp"),
+    ("seal seal seal --platform snp --native-zero", "snp", True, "seal"))
+# words that ask for what the image hasn't got
+NOT_THERE = (
+    *((f"strip block new --platform {wanted}", f"no platform {wanted}") for wanted in ("4", "32", "4294967295")),
+    ("strip sevs new --platform tdx", "no platform tdx"),
+    *((f"seal block new --platform {wanted}{option}", error) for option in ("", " --native-zero")
+      for wanted, error in (("4", "no platform 4"), ("4294967295", "no platform 4294967295"), ("3", "no seal for sev"),
+                            ("1", "no seal for tdx"), ("tdx", "no seal for tdx"))),
+    ("seal sevs new --platform 1", "no seal for sev_es"), ("seal image new --platform 0", "no seal for native"),
+    ("seal image new --platform snp", "no id block"), ("seal sevs new --platform 3 --native-zero", "no id block"))
 # words that mean a job, and the command that it is
 TAKEN = (
     ("print image", "print"), ("measure image --platform snp", "measure snp"),
@@ -110,6 +146,61 @@ TAKEN = (
     ("sev-measure ./-x --platform sev", "sev-measure sev"),
     ("sev-measure print --platform 4294967295", "sev-measure 4294967295"),
 )
+# words that are no P, but for the commands on SEV and SEV-ES platforms
+NO_P = ("native", "vsm", "SNP", "Snp", "snpx", "sn", "snp,tdx", "TDX", "sev", "sev_es", "sev-es", "00", "01", "+0",
+        "+1", "-1", "-0", "0x0", "0x1", "1.0", "1e0", "1_0", "1a", "4294967296", "18446744073709551616",
+        "18446744073709551617", "04294967295", "\u0661", "--", "-")
+# words that are hardly `join`, and others that are hardly `strip` or `seal`
+NO_PAIR = (
+    "join", "join block", "join block sevs", "join block new", "join block sevs new new", "join block sevs sevs new",
+    "join -block sevs new", "join block -sevs new", "join block sevs -new", "join - sevs new", "join block - new",
+    "join block sevs -", "join -- block sevs new", "join block -- sevs new", "join block sevs -- new",
+    "join block sevs new --", "join block sevs --", "-- join block sevs new", "join --help", "join block sevs --help",
+    "join block sevs new --help", "join block sevs new --platform snp", "join block sevs new --platform 0",
+    "join --platform snp block sevs new", "join block sevs --platform snp new", "join block --platform snp sevs new",
+    "join block sevs --platform snp", "join block sevs new --native-zero", "join block sevs --native-zero new",
+    "join --native-zero block sevs new", "join block sevs --native-zero", "join block sevs new --image new",
+    "join block sevs --image new", "Join block sevs new", "JOIN block sevs new", "joi block sevs new",
+    "joins block sevs new", "--join block sevs new", "-join block sevs new", "joined block sevs new",
+    "block join sevs new", "block sevs join new", "block sevs new join", "join join block sevs new",
+    "build block sevs new", "print block sevs new", "strip block sevs new", "seal block sevs new")
+NO_CHANGE = tuple(text for name in ("strip", "seal") for text in (
+    name, f"{name} block", f"{name} block new", f"{name} block new --platform", f"{name} block --platform snp",
+    f"{name} block new snp", f"{name} --platform snp", f"{name} block new new --platform snp",
+    f"{name} block block new --platform snp", f"{name} block new --platform snp snp",
+    f"{name} block new --platform snp new", f"{name} block new --platform snp tdx",
+    f"{name} block new --platform snp --platform snp", f"{name} block new --platform snp --platform tdx",
+    f"{name} --platform snp block new", f"{name} block --platform snp new", f"--platform snp {name} block new",
+    f"{name} -block new --platform snp", f"{name} block -new --platform snp", f"{name} - new --platform snp",
+    f"{name} block - --platform snp", f"{name} -- block new --platform snp", f"{name} block -- new --platform snp",
+    f"{name} block new -- --platform snp", f"{name} block new --platform -- snp", f"{name} block new --platform snp --",
+    f"-- {name} block new --platform snp", f"{name} --help", f"{name} block new --help",
+    f"{name} block new --platform snp --help", f"{name} block new --platform=snp", f"{name} block new -platform snp",
+    f"{name} block new --Platform snp", f"{name} block new -p snp", f"{name} block new --platforms snp",
+    f"{name} block new --platform snp --image new", f"{name} block --image new --platform snp",
+    f"{name} block --platform snp --image new", f"{name} block new --native-zero",
+    f"{name} block new --native-zero --platform snp", f"{name} --native-zero block new --platform snp",
+    f"{name} block --native-zero new --platform snp", f"--native-zero {name} block new --platform snp",
+    f"{name} block new --platform --native-zero", f"{name} block new --platform --native-zero snp",
+    f"{name} block new --platform snp --native-zero --native-zero",
+    f"{name} block new --native-zero --platform snp --native-zero",
+    f"{name} block new --platform snp --native-zero snp", f"{name} block new --platform snp --native-zero new",
+    f"{name} block new --platform snp --native-zero --platform snp",
+    f"{name} block new --platform snp --native-zero --",
+    f"{name} block new --platform snp -- --native-zero", f"{name} block new --platform snp tdx --native-zero",
+    f"{name} block new --platform snp --native-zero=true", f"{name} block new --platform snp --native-zero=",
+    f"{name} block new --platform snp --native_zero", f"{name} block new --platform snp --native-zeros",
+    f"{name} block new --platform snp --native", f"{name} block new --platform snp -native-zero",
+    f"{name} block new --platform snp native-zero", f"{name} block new --platform snp --NATIVE-ZERO",
+    f"{name} block new --platform snp --native-zero --image new",
+    f"{name.capitalize()} block new --platform snp", f"{name.upper()} block new --platform snp",
+    f"{name[:-1]} block new --platform snp", f"{name}s block new --platform snp", f"--{name} block new --platform snp",
+    f"{name}-image block new --platform snp", f"block {name} new --platform snp", f"block new {name} --platform snp",
+    f"block new --platform snp {name}", f"{name} {name} block new --platform snp",
+    *(f"{name} block new --platform {wanted}" for wanted in NO_P),
+)) + ("strip block new --platform snp --native-zero", "strip block new --platform 0 --native-zero",
+      "strip seal block new --platform snp", "seal strip block new --platform snp", "build block new --platform snp",
+      "sealed block new --platform snp", "stripped block new --platform snp", "print block new --platform snp")
 # words that mean none
 REFUSED = (
     "", "print", "measure", "help", "--help", "-h", "--version", "--", "image", "PRINT image", "prin image",
@@ -273,6 +364,7 @@ REFUSED = (
     "elf-build list elf 1 new", "build-el list elf 1 new", "build-elfs list elf 1 new", "build-elf64 list elf 1 new",
     "--build-elf list elf 1 new", "elf list elf 1 new", "list build-elf elf 1 new", "build list elf 1 new",
     "build list new 1", "build-elf list new",
+    *NO_PAIR, *NO_CHANGE,
 )
 EMPTY = (["print", ""], ["measure", "", "--platform", "snp"], ["measure", "image", "", "snp"],
          ["measure", "image", "--platform", ""], ["", "image"], ["print image"],
@@ -322,7 +414,26 @@ EMPTY = (["print", ""], ["measure", "", "--platform", "snp"], ["measure", "image
          ["sev-measure", "image", "--platform sev"], ["sev-measure image", "--platform", "sev"],
          ["sev-measure", "image", "--platform", "sev "], ["sev-measure", "image", "--platform", " 0"],
          [b"sev-measure", b"im\xffage", b"--platform", b"sev"], [b"sev-measure", b"image", b"--platform", b"se\xff"],
-         [b"measure", b"image", b"--platform", b"snp", b"--native-zero\xff"])
+         [b"measure", b"image", b"--platform", b"snp", b"--native-zero\xff"],
+         ["join", "", "sevs", "new"], ["join", "block", "", "new"], ["join", "block", "sevs", ""],
+         ["join", "block", "sevs", "new", ""], ["", "join", "block", "sevs", "new"], ["join", "block sevs", "new"],
+         ["join block", "sevs", "new"], ["join", "block", "sevs new"], ["join ", "block", "sevs", "new"],
+         [b"join", b"bl\xffock", b"sevs", b"new"], [b"join", b"block", b"se\xffvs", b"new"],
+         [b"join", b"block", b"sevs", b"ne\xffw"],
+         *(words for name in ("strip", "seal") for words in (
+             [name, "", "new", "--platform", "snp"], [name, "block", "", "--platform", "snp"],
+             [name, "block", "new", "", "snp"], [name, "block", "new", "--platform", ""],
+             [name, "block", "new", "--platform", "snp", ""], ["", name, "block", "new", "--platform", "snp"],
+             [name, "block new", "--platform", "snp"], [name, "block", "new", "--platform snp"],
+             [name, "block", "new", "--platform", "snp "], [name, "block", "new", "--platform", " 0"],
+             [name, "block", "new", "--platform", "snp --native-zero"],
+             [name, "block", "new", "--platform", "snp", "--native-zero "],
+             [name, "block", "new", "--platform", "snp", "--native-zero", ""],
+             [f"{name} block", "new", "--platform", "snp"], [f"{name} ", "block", "new", "--platform", "snp"],
+             [name.encode(), b"bl\xffock", b"new", b"--platform", b"snp"],
+             [name.encode(), b"block", b"ne\xffw", b"--platform", b"snp"],
+             [name.encode(), b"block", b"new", b"--platform", b"sn\xff"],
+             [name.encode(), b"block", b"new", b"--platform", b"snp", b"--native-zero\xff"])))
 SHOWN = 100                         # bytes of a file that are printed
 
 
@@ -366,6 +477,7 @@ def rows():
         yield words.split(), (4, "", "igvm: outside fault: shelf\n")
     for words, page in PRINTING:
         yield words.split(), vmsas.printed(page)
+    yield from change_rows()
     # The platform is looked up before HOST is read.
     yield ["load", "image", "missing", "--platform", "0"], (6, "", "igvm: no digest for native\n")
     yield ["sev-load", "sevs", "missing", "--platform", "3"], (6, "", "igvm: no digest for snp\n")
@@ -389,6 +501,27 @@ def rows():
     yield ["build-elf", "list", "host", "1", "missing/new"], (1, "", "igvm: elf refused at 0: too short\n")
 
 
+def change_rows():
+    """Those of `strip`, `join` and `seal`."""
+    shelf, broken = (4, "", "igvm: outside fault: shelf\n"), answer("print", LIST, reader.first_fault(LIST))
+    for words, error in NOT_THERE:
+        yield words.split(), (6, "", f"igvm: {error}\n")
+    for name, option in (("strip", []), ("seal", []), ("seal", ["--native-zero"])):
+        for file, out in (("missing", "new"), (".", "new"), ("block", "."), ("block", "missing/new")):
+            yield [name, file, out, "--platform", "snp", *option], shelf
+        # FILE is judged before the platform is looked up, and that is done before OUT is touched.
+        for wanted in ("snp", "tdx", "9"):
+            yield [name, "list", "new", "--platform", wanted, *option], broken
+            yield [name, "list", "missing/new", "--platform", wanted, *option], broken
+        yield [name, "block", "missing/new", "--platform", "9", *option], (6, "", "igvm: no platform 9\n")
+    for files in ("missing sevs new", ". sevs new", "block missing new", "block . new", "block sevs .",
+                  "block sevs missing/new"):
+        yield ["join", *files.split()], shelf
+    # FIRST is judged before SECOND is read.
+    for files in ("list sevs new", "list missing new", "list list new", "block list new", "block list missing/new"):
+        yield ["join", *files.split()], broken
+
+
 def writing_rows():
     """(words, the file that they write, the answer, what is written then)."""
     for words, name in BUILDING:
@@ -401,6 +534,15 @@ def writing_rows():
     for words, wanted, native_zero, name in LOADING:
         loaded = load(IMAGE, HOST, wanted, native_zero)
         yield words, name, loaded[:3], loaded.pages
+    for words, wanted, name in STRIPPING:
+        *want, image = changes.strip(BLOCK, wanted)
+        yield words, name, tuple(want), image
+    for words, first, second, name in JOINING:
+        *want, image = changes.join(first, second)
+        yield words, name, tuple(want), image
+    for words, wanted, native_zero, name in SEALING:
+        *want, image = changes.seal(BLOCK, wanted, native_zero)
+        yield words, name, tuple(want), image
     for words, pages, name in MAKING:
         answered = made(pages)
         yield words, name, answered[:3], answered.image
@@ -418,7 +560,7 @@ def differences(folder):
     """The words that are answered otherwise, each a text, and None for the others."""
     os.chdir(folder)
     for names, content in ((NAMES, IMAGE), (SEV_NAMES, SEV_IMAGE), (LIST_NAMES, LIST), (HOST_NAMES, HOST),
-                           (TEXT_NAMES, TEXT), (PAGE_NAMES, RESET), (ELF_NAMES, THREE)):
+                           (TEXT_NAMES, TEXT), (PAGE_NAMES, RESET), (ELF_NAMES, THREE), (BLOCK_NAMES, BLOCK)):
         for name in names:
             with open(name, "wb") as file:
                 file.write(content)
