@@ -19,19 +19,19 @@ KINDS = ("snp", "tdx")
 OPTION = "--native-zero"
 
 
-def section(pages, distinct, kinds):
-    """Two platforms of these types, and the pages of both, their data behind the section in order."""
+def section(pages, distinct, kinds, behind):
+    """Two platforms of these types, the pages of both, their data behind the section in order, and further headers."""
     parts = [platform(mask, kind) for mask, kind in zip((1, 2), kinds)]
-    data = 24 + 48 + 32 * pages
+    data = 24 + 48 + 32 * pages + len(behind)
     for k in range(pages):
         offset = data + PAGE * k if distinct else 0
         parts.append(struct.pack("<IIQIIIHH", 0x302, 24, PAGE * k, 3, offset, 0, 0, 0))
-    return b"".join(parts)
+    return b"".join(parts) + behind
 
 
-def write_image(path, pages, distinct, kinds=(2, 3)):
+def write_image(path, pages, distinct, kinds=(2, 3), behind=b""):
     """An image of so many pages for two platforms, which are SEV-SNP and TDX unless named; its size."""
-    headers = section(pages, distinct, kinds)
+    headers = section(pages, distinct, kinds, behind)
     total = 24 + len(headers) + (PAGE * pages if distinct else 0)
     rest = os.urandom(PAGE - 8)
     with open(path, "wb") as out:

@@ -1,7 +1,7 @@
 """An example image as it is spelled by hand from the pages: its bytes, its listing and its digests.
 
 docs/FORMAT.md gives the bytes, docs/PROGRAM.md the listing, docs/DIGESTS.md the digests, which are taken with hashlib
-over records that are kept as the headers are declared. No part of the toolset takes part.
+over what is kept as the headers are declared. No part of the toolset takes part.
 """
 import hashlib
 import struct
@@ -9,7 +9,7 @@ import zlib
 
 PAGE = 4096
 LARGE = 512 * PAGE
-SNP, TDX, NATIVE = 1, 2, 4          # the masks of the platforms
+SNP, TDX, NATIVE = 1, 2, 4          # the masks of the platforms, where nothing else is said
 FIXED_SIZES = {1: 24, 2: 32}        # by the format's version, the bytes of the fixed header
 KINDS = {SNP: 2, TDX: 3, NATIVE: 0}
 KIND_NAMES = {SNP: "snp", TDX: "tdx", NATIVE: "native"}
@@ -24,25 +24,26 @@ def td_record(name, gpa):
 
 
 class Image:
-    """Headers and data as they are declared, and the records that they give."""
+    """Headers and data as they are declared, and the pages that they place."""
 
     def __init__(self, version=1):
         self.version = version
         self.headers = []           # (type, content, text of its line, where its file offset stands, data)
         self.areas = {}             # index -> size
-        self.snp_records = []       # (name of the page type, GPA, the page, the file holds nothing of it)
-        self.td_records = []
-        self.platforms = 0
+        self.placed = []            # (mask, name of the page type, GPA, the page, the file holds nothing of it)
+        self.kinds = []             # of the platforms, by their numbers: (mask, platform type)
 
     def header(self, kind, content, text, offset_at=None, data=b""):
         """In the text `{offset}` stands for the file offset of the data."""
         self.headers.append((kind, content, text, offset_at, data))
 
-    def platform(self, mask, vtl=0):
-        self.header(0x001, struct.pack("<IBBHQ", mask, vtl, KINDS[mask], 1, 0),
-                    f"platform {self.platforms} mask {mask:08x} kind {KIND_NAMES[mask]} vtl {vtl} version 1 "
+    def platform(self, mask, vtl=0, of=None):
+        """One of the kind that this mask has, or the mask `of`."""
+        kind = of or mask
+        self.header(0x001, struct.pack("<IBBHQ", mask, vtl, KINDS[kind], 1, 0),
+                    f"platform {len(self.kinds)} mask {mask:08x} kind {KIND_NAMES[kind]} vtl {vtl} version 1 "
                     f"shared {0:016x}")
-        self.platforms += 1
+        self.kinds.append((mask, kind))
 
     def policy(self, mask, value):
         self.header(0x101, struct.pack("<QII", value, mask, 0), f"policy mask {mask:08x} value {value:016x}")
@@ -73,17 +74,17 @@ class Image:
         name = {NORMAL: "unmeasured" if unmeasured else "normal", SECRETS: "secrets"}.get(kind, "cpuid")
         whole = data or bytes(size)
         for at in range(0, size, PAGE):
-            self.place(mask, name, gpa + at, whole[at:at + PAGE], is_absent=not data)
+            self.placed.append((mask, name, gpa + at, whole[at:at + PAGE], not data))
 
     def insert(self, mask, gpa, index):
         self.header(0x303, struct.pack("<QII", gpa, mask, index), f"insert gpa {gpa:016x} mask {mask:08x} area {index}")
         for at in range(0, self.areas[index], PAGE):
-            self.place(mask, "unmeasured", gpa + at)
+            self.placed.append((mask, "unmeasured", gpa + at, b"", False))
 
     def context(self, mask, gpa, vp, data=b""):
         self.header(0x304, struct.pack("<QIIHH", gpa, mask, 0, vp, 0),
                     f"context gpa {gpa:016x} mask {mask:08x} from {{offset}} vp {vp}", 12, data)
-        self.place(mask & SNP, "vmsa", gpa, data.ljust(PAGE, b"\0"))
+        self.placed.append((mask, "vmsa", gpa, data.ljust(PAGE, b"\0"), not data))
 
     def id_block(self, mask, digest):
         names = (b"example family".ljust(16, b"\0"), b"example image".ljust(16, b"\0"))
@@ -92,19 +93,12 @@ class Image:
                     f"id-block mask {mask:08x} author 0 ld {digest.hex()} family {names[0].hex()} "
                     f"image {names[1].hex()} version 1 svn 2 algorithms 1 0")
 
-    def place(self, mask, name, gpa, page=b"", is_absent=False):
-        """The records of one page on the platforms of this mask."""
-        if mask & SNP:
-            self.snp_records.append((name, gpa, page, is_absent))
-        if mask & TDX:
-            self.td_records.append(td_record(b"MEM.PAGE.ADD", gpa))
-            for at in range(0, PAGE if name == "normal" else 0, 256):
-                self.td_records.append(td_record(b"MR.EXTEND", gpa + at) + page[at:at + 256])
-
-    def snp(self, native_zero=False):
-        """The SEV-SNP launch digest of the records so far, with the option `--native-zero` or without."""
+    def snp(self, mask=SNP, native_zero=False):
+        """The SEV-SNP launch digest of what was declared so far, with the option `--native-zero` or without."""
         digest = bytes(48)
-        for name, gpa, page, is_absent in self.snp_records:
+        for page_mask, name, gpa, page, is_absent in self.placed:
+            if not page_mask & mask:
+                continue
             if native_zero and name == "normal" and is_absent:
                 name = "zero"
             contents = hashlib.sha384(page).digest() if name in ("normal", "vmsa") else bytes(48)
@@ -112,9 +106,16 @@ class Image:
             digest = hashlib.sha384(info).digest()
         return digest
 
-    def tdx(self):
-        """MRTD of the records so far."""
-        return hashlib.sha384(b"".join(self.td_records)).digest()
+    def tdx(self, mask=TDX):
+        """MRTD of what was declared so far."""
+        stream = hashlib.sha384()
+        for page_mask, name, gpa, page, _ in self.placed:
+            if not page_mask & mask or name == "vmsa":
+                continue
+            stream.update(td_record(b"MEM.PAGE.ADD", gpa))
+            for at in range(0, PAGE if name == "normal" else 0, 256):
+                stream.update(td_record(b"MR.EXTEND", gpa + at) + page[at:at + 256])
+        return stream.digest()
 
     def spelled(self):
         """The file and its listing: fixed header, section, then the data in the order of their headers."""

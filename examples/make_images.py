@@ -13,6 +13,7 @@ import sys
 from image import CPUID, CPUID_XF, NATIVE, PAGE, SECRETS, SNP, TDX, Image
 
 ALL = SNP | TDX | NATIVE
+OTHER_SNP, OTHER_TDX = 8, 16        # the masks of the second image's platforms, where two are joined
 BOOT_PAGES = 9
 DATA_AT, CODE_AT, RESET_AT = 0x100000, 0xFFFFE000, 0xFFFFFFF0      # of the firmware, in guest memory
 
@@ -45,25 +46,28 @@ def one_page():
     return image
 
 
-def for_three_platforms(command_line_bytes, command_line=b""):
-    """What both guests begin with: the platforms, a policy, the areas of the host's parameters, the memory wanted."""
-    image = Image()
+def three_platforms(image):
     image.platform(SNP, vtl=2)
     image.platform(TDX)
     image.platform(NATIVE)
-    image.policy(SNP, 0x30000)
+
+
+def parameters(image, command_line_bytes, command_line=b""):
+    """The areas of the host's parameters."""
     image.area(0, PAGE)
     image.area(1, command_line_bytes, command_line)
     image.parameter("memory_map", 0, 0)
     image.parameter("vp_count", 0, 2048)
     image.parameter("command_line", 1, 0)
-    image.required(ALL, 0, 0x1000000)
-    return image
 
 
 def guest():
     """A small guest for three platforms, with each kind of header."""
-    image = for_three_platforms(2 * PAGE, pattern(2, 2 * PAGE))
+    image = Image()
+    three_platforms(image)
+    image.policy(SNP, 0x30000)
+    parameters(image, 2 * PAGE, pattern(2, 2 * PAGE))
+    image.required(ALL, 0, 0x1000000)
     for k in range(3):
         image.page(ALL, 0x10000 + k * PAGE, pattern(3 + k, PAGE))
     image.page(SNP | TDX, 0x13000, pattern(6, PAGE), unmeasured=True)
@@ -84,7 +88,16 @@ def guest():
 
 def boot():
     """What boots on three platforms: nine pages of code, the host's parameters, and on SEV-SNP one processor."""
-    image = for_three_platforms(PAGE)
+    image = Image()
+    three_platforms(image)
+    image.policy(SNP, 0x30000)
+    boot_directives(image)
+    return image
+
+
+def boot_directives(image):
+    parameters(image, PAGE)
+    image.required(ALL, 0, 0x1000000)
     code = boot_pages()
     for at in range(0, len(code), PAGE):
         image.page(ALL, 0x10000 + at, code[at:at + PAGE])
@@ -93,7 +106,6 @@ def boot():
     image.insert(ALL, 0x1A000, 0)
     image.insert(ALL, 0x1B000, 1)
     image.context(SNP, 0xFFFFFFFFF000, 0, boot_vmsa().ljust(PAGE, b"\0"))
-    return image
 
 
 def sparse_pages():
@@ -106,15 +118,58 @@ def sparse():
     image = Image(version=2)
     image.platform(SNP)
     image.platform(TDX)
-    held = sparse_pages()
-    image.page(SNP | TDX, 0x10000, held[:PAGE])
-    image.page(SNP | TDX, 0x11000, held[PAGE:])
-    for k in range(2):
-        image.page(SNP | TDX, 0x12000 + k * PAGE)
-    image.page(SNP | TDX, 0x14000, unmeasured=True)
-    image.page(SNP | TDX, 0x200000, large=True)
-    image.context(SNP, 0xFFFFFFFFF000, 0)
+    sparse_directives(image, SNP, SNP | TDX)
     return image
+
+
+def sparse_directives(image, snp, both):
+    """Those of the platforms of these masks."""
+    held = sparse_pages()
+    image.page(both, 0x10000, held[:PAGE])
+    image.page(both, 0x11000, held[PAGE:])
+    for k in range(2):
+        image.page(both, 0x12000 + k * PAGE)
+    image.page(both, 0x14000, unmeasured=True)
+    image.page(both, 0x200000, large=True)
+    image.context(snp, 0xFFFFFFFFF000, 0)
+
+
+def joined():
+    """boot.igvm and sparse.igvm joined: the platforms of both, the policy, the directives of one behind the other's."""
+    image = Image()
+    three_platforms(image)
+    image.platform(OTHER_SNP, of=SNP)
+    image.platform(OTHER_TDX, of=TDX)
+    image.policy(SNP, 0x30000)
+    boot_directives(image)
+    sparse_directives(image, OTHER_SNP, OTHER_SNP | OTHER_TDX)
+    return image
+
+
+def stripped():
+    """What was joined, stripped to the second SEV-SNP platform: the areas of boot.igvm have no mask, so they stay."""
+    image = Image()
+    image.platform(OTHER_SNP, of=SNP)
+    parameters(image, PAGE)
+    sparse_directives(image, OTHER_SNP, OTHER_SNP)
+    return image
+
+
+def with_block(digest):
+    """One page, and an ID block that wants this digest."""
+    image = one_page()
+    image.id_block(SNP, digest)
+    return image
+
+
+def unsealed():
+    """An ID block that doesn't know its digest yet."""
+    return with_block(bytes(48))
+
+
+def sealed():
+    """The same sealed: an ID block is no part of the digest, so it is that of the page."""
+    return with_block(one_page().snp())
 
 
 def firmware_data():
@@ -169,7 +224,8 @@ def firmware():
     return image
 
 
-IMAGES = {"one_page": one_page, "guest": guest, "boot": boot, "sparse": sparse, "firmware": firmware}
+IMAGES = {"one_page": one_page, "guest": guest, "boot": boot, "sparse": sparse, "firmware": firmware, "joined": joined,
+          "stripped": stripped, "unsealed": unsealed, "sealed": sealed}
 OTHER_FILES = {"boot.pages": boot_pages, "boot.vmsa": boot_vmsa, "sparse.pages": sparse_pages,
                "firmware.elf": firmware_elf, "firmware.vmsa": firmware_vmsa}
 
@@ -186,10 +242,12 @@ def main():
         file, listing = image.spelled()
         write(folder, f"{name}.igvm", file)
         write(folder, f"{name}.txt", listing.encode("ascii"))
-        print(f"{name}.igvm snp", image.snp().hex())
-        print(f"{name}.igvm snp --native-zero", image.snp(native_zero=True).hex())
-        if image.platforms > 1:
-            print(f"{name}.igvm tdx", image.tdx().hex())
+        for number, (mask, kind) in enumerate(image.kinds):
+            if kind == SNP:
+                print(f"{name}.igvm {number}", image.snp(mask).hex())
+                print(f"{name}.igvm {number} --native-zero", image.snp(mask, native_zero=True).hex())
+            if kind == TDX:
+                print(f"{name}.igvm {number}", image.tdx(mask).hex())
     for name, make in OTHER_FILES.items():
         write(folder, name, make())
 
