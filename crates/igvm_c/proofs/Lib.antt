@@ -1,0 +1,4 @@
+pub mod HeaderLemmas
+pub mod WalkLaws
+pub mod PageLaws
+pub mod RuleLaws

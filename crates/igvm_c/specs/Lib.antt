@@ -1,0 +1,12 @@
+pub mod Refusals
+pub mod Files
+pub mod Rules
+pub mod Faults
+pub mod Texts
+pub mod OptionBits
+pub mod Platforms
+pub mod Digests
+pub mod Pairs
+pub mod Headers
+pub mod Pages
+pub mod Walk
