@@ -1,73 +1,60 @@
 /*
- * Asks the library every question about files, and puts each answer as a line: for c_library.py.
+ * Asks the library everything that include/igvm.h offers, for c_library.py.
  *
- *     c_library LIST               the files that LIST names, a line each
- *     c_library --threads A B      two threads measure both, many times over
+ *     c_library LIST                about each file that LIST names, a name a line, and the one before it
+ *     c_library --twice LIST        all of it twice
+ *     c_library --zeros FILE SIZE.. about FILE, and then about so many bytes of zeros each
+ *     c_library --threads FILE FILE measures by two threads at once
  *
- * A line is what was asked, the status, and the answer, or "kept" where the status isn't 0 and the place of the answer is
- * as it was. Each place, and each file, is a block of just its size, so that valgrind sees a step over its end.
+ * A line is a question: its word, the status, what was asked for, and the answer. Where there is none, it ends with
+ * `kept`, or with `written` where the place of the answer isn't as it was. Each place that the library reads or writes
+ * is a block of just its size, so that a tool which watches memory sees a step beyond it. The last line says how many
+ * of them were taken.
  */
 #include <igvm.h>
+#include <inttypes.h>
 #include <pthread.h>
 #include <stdio.h>
 #include <stdlib.h>
 #include <string.h>
 
-enum { MEASURED_PLATFORMS = 4, OPTIONS = 3, KINDS = 7, PATTERN = 0xA5, ROUNDS = 200, WORDS = 64 };
+enum {
+    PATTERN = 0xA5,        /* what a place is filled with */
+    RULES = 26,
+    KINDS = 7,             /* all, and one past the last */
+    OPTIONS = 3,           /* both values, and one that stands for nothing */
+    PAIRED = 3,            /* the platforms that are compared, at most */
+    BESIDE = 12,           /* the headers behind whose first byte no header stands: so many are asked for */
+    ROUNDS = 100
+};
 
 struct file {
     uint8_t *bytes;
     size_t size;
 };
 
-/* What the library asks of the memory's owner goes through these (-Wl,--wrap); the driver's own goes by `block`. */
-void *__real_malloc(size_t size);
-void __real_free(void *block);
-void *__wrap_malloc(size_t size);
-void *__wrap_calloc(size_t count, size_t size);
-void *__wrap_realloc(void *block, size_t size);
-void __wrap_free(void *block);
+static unsigned long taken;
 
-static unsigned long allocations;
-
-void *__wrap_malloc(size_t size)
+static void stop(const char *why, const char *name)
 {
-    allocations++;
-    return __real_malloc(size);
+    fflush(stdout);
+    fprintf(stderr, "c_library: %s: %s\n", why, name);
+    exit(2);
 }
 
-void *__wrap_calloc(size_t count, size_t size)
+/* A place of just this size, filled with the pattern. */
+static void *take(size_t size)
 {
-    (void)count, (void)size;
-    allocations++;
-    return NULL;
+    void *place = malloc(size);
+    if (place == NULL && size == 0)
+        place = malloc(1);
+    if (place == NULL)
+        stop("want of memory", "a place");
+    taken++;
+    return memset(place, PATTERN, size);
 }
 
-void *__wrap_realloc(void *block, size_t size)
-{
-    (void)block, (void)size;
-    allocations++;
-    return NULL;
-}
-
-void __wrap_free(void *block)
-{
-    allocations++;
-    __real_free(block);
-}
-
-static void *block(size_t size)
-{
-    void *made = __real_malloc(size == 0 ? 1 : size);
-    if (made == NULL) {
-        fprintf(stderr, "c_library: no memory\n");
-        exit(2);
-    }
-    memset(made, PATTERN, size);
-    return made;
-}
-
-/* Whether a place is as `block` made it. */
+/* Whether a place is filled with the pattern as before. */
 static int is_kept(const void *place, size_t size)
 {
     const uint8_t *bytes = place;
@@ -77,262 +64,351 @@ static int is_kept(const void *place, size_t size)
     return 1;
 }
 
+static const char *kept(const void *place, size_t size)
+{
+    return is_kept(place, size) ? "kept" : "written";
+}
+
+/* Whether there is an answer to put; where there is none, the line ends here. */
+static int is_answered(uint32_t status, const void *place, size_t size)
+{
+    if (status != IGVM_OK)
+        printf(" %s\n", kept(place, size));
+    return status == IGVM_OK;
+}
+
 static struct file read_file(const char *name)
 {
     struct file file = {NULL, 0};
     FILE *stream = fopen(name, "rb");
-    if (stream == NULL || fseek(stream, 0, SEEK_END) != 0) {
-        fprintf(stderr, "c_library: %s can't be read\n", name);
-        exit(2);
-    }
-    file.size = (size_t)ftell(stream);
+    long end = 0;
+    if (stream == NULL || fseek(stream, 0, SEEK_END) != 0 || (end = ftell(stream)) < 0)
+        stop("can't be read", name);
+    file.size = (size_t)end;
+    file.bytes = take(file.size);
     rewind(stream);
-    file.bytes = block(file.size);
     if (fread(file.bytes, 1, file.size, stream) != file.size)
-        exit(2);
+        stop("can't be read", name);
     fclose(stream);
     return file;
 }
 
-/* Ends a line whose answer isn't to be put; says whether it is. */
-static int is_answered(uint32_t status, const void *place, size_t size)
+/*
+ * The words for a rule in room of this size; a zero byte has to end them, and nothing else to be written. A number
+ * that no rule has gives no words, and the zero byte.
+ */
+static void ask_text(uint32_t rule, size_t room)
 {
-    printf(" %u", status);
-    if (status != 0)
-        printf(" %s\n", is_kept(place, size) ? "kept" : "touched");
-    return status == 0;
+    char *text = take(room);
+    size_t size = igvm_rule_text(rule, (uint8_t *)text, room);
+    printf("text %zu %" PRIu32 " %zu ", size, rule, room);
+    if (size >= room)
+        printf("%s\n", kept(text, room));
+    else if (text[size] != '\0' || !is_kept(text + size + 1, room - size - 1))
+        printf("written behind its end\n");
+    else
+        printf("%s\n", text);
+    free(text);
 }
 
-static void put_hex(const uint8_t *bytes, size_t size)
+/* In exact room, in more, in a byte less, in none. */
+static void ask_texts(uint32_t rule)
 {
-    putchar(' ');
-    for (size_t i = 0; i < size; i++)
-        printf("%02x", bytes[i]);
-    putchar('\n');
-}
-
-/* The words for a rule, in room for them and a zero byte; one byte less, and none, are left as they are. */
-static void ask_text(uint32_t rule)
-{
-    uint8_t all[WORDS];
-    size_t size = igvm_rule_text(rule, all, sizeof all);
-    uint8_t *text = block(size + 1);
-    printf("text %u %zu", rule, size);
-    if (size > 0 && (igvm_rule_text(rule, text, size) != size || !is_kept(text, size + 1)))
-        printf(" touched");
-    if (igvm_rule_text(rule, text, 0) != size || !is_kept(text, size + 1))
-        printf(" touched");
-    if (igvm_rule_text(rule, text, size + 1) != size || strlen((char *)text) != size)
-        printf(" unlike");
-    printf(" %s\n", text);
-    __real_free(text);
+    size_t size = igvm_rule_text(rule, (uint8_t *)"", 0);
+    ask_text(rule, size + 1);
+    ask_text(rule, size + 9);
+    ask_text(rule, size);
+    ask_text(rule, 0);
 }
 
 static void ask_check(struct file file)
 {
-    struct igvm_fault *fault = block(sizeof *fault);
+    struct igvm_fault *fault = take(sizeof *fault);
     uint32_t status = igvm_check(file.bytes, file.size, fault);
-    printf("check %u", status);
+    printf("check %" PRIu32, status);
     if (status == IGVM_RULE)
-        printf(" %llu %u %u\n", (unsigned long long)fault->at, fault->rule, fault->number);
+        printf(" %" PRIu64 " %" PRIu32 " %" PRIu32 "\n", fault->at, fault->rule, fault->number);
     else
-        printf(" %s\n", is_kept(fault, sizeof *fault) ? "kept" : "touched");
-    __real_free(fault);
+        printf(" %s\n", kept(fault, sizeof *fault));
+    free(fault);
 }
 
+/* Gives how many platforms there are, 0 where there is no answer. */
 static uint32_t ask_count(struct file file)
 {
-    uint32_t *count = block(sizeof *count), found = 0;
-    printf("count");
-    if (is_answered(igvm_platform_count(file.bytes, file.size, count), count, sizeof *count)) {
-        found = *count;
-        printf(" %u\n", found);
-    }
-    __real_free(count);
+    uint32_t *count = take(sizeof *count), status = igvm_platform_count(file.bytes, file.size, count), found = 0;
+    printf("count %" PRIu32, status);
+    if (is_answered(status, count, sizeof *count))
+        printf(" %" PRIu32 "\n", found = *count);
+    free(count);
     return found;
 }
 
 static void ask_platform(struct file file, uint32_t number)
 {
-    struct igvm_platform *p = block(sizeof *p);
-    printf("platform %u", number);
-    /* the struct ends with bytes that no field has */
-    if (is_answered(igvm_platform(file.bytes, file.size, number, p), p, offsetof(struct igvm_platform, highest_vtl) + 4))
-        printf(" %u %08x %u %u %u %016llx\n", p->number, p->mask, p->kind, p->highest_vtl, p->version,
-               (unsigned long long)p->shared_gpa);
-    __real_free(p);
+    struct igvm_platform_fields *found = take(sizeof *found);
+    uint32_t status = igvm_platform(file.bytes, file.size, number, found);
+    printf("platform %" PRIu32 " %" PRIu32, status, number);
+    if (is_answered(status, found, sizeof *found))
+        printf(" %" PRIu32 " mask %08" PRIx32 " kind %" PRIu32 " vtl %" PRIu32 " version %" PRIu32 " shared %016" PRIx64
+               "\n", found->number, found->mask, found->kind, found->highest_vtl, found->version, found->shared_gpa);
+    free(found);
 }
 
-static void ask_first(struct file file, uint32_t kind)
+static void ask_first_platform(struct file file, uint32_t kind)
 {
-    uint32_t *number = block(sizeof *number);
-    printf("first %u", kind);
-    if (is_answered(igvm_first_platform(file.bytes, file.size, kind, number), number, sizeof *number))
-        printf(" %u\n", *number);
-    __real_free(number);
+    uint32_t *number = take(sizeof *number), status = igvm_first_platform(file.bytes, file.size, kind, number);
+    printf("first %" PRIu32 " %" PRIu32, status, kind);
+    if (is_answered(status, number, sizeof *number))
+        printf(" %" PRIu32 "\n", *number);
+    free(number);
 }
 
-static void ask_digests(struct file file, uint32_t platform)
+static void put_digest(const uint8_t *bytes, size_t size)
 {
-    struct igvm_digest *digest = block(sizeof *digest);
-    struct igvm_sev_digest *sev = block(sizeof *sev);
-    for (uint32_t options = 0; options < OPTIONS; options++) {
-        memset(digest, PATTERN, sizeof *digest);
-        printf("digest %u %u", platform, options);
-        if (is_answered(igvm_measure(file.bytes, file.size, platform, options, digest), digest, sizeof *digest))
-            put_hex(digest->bytes, sizeof digest->bytes);
-    }
-    printf("sev %u", platform);
-    if (is_answered(igvm_sev_measure(file.bytes, file.size, platform, sev), sev, sizeof *sev))
-        put_hex(sev->bytes, sizeof sev->bytes);
-    __real_free(sev);
-    __real_free(digest);
+    printf(" ");
+    for (size_t i = 0; i < size; i++)
+        printf("%02x", bytes[i]);
+    printf("\n");
 }
 
-/* Puts a header; gives where the next one is. */
+static void ask_measure(struct file file, uint32_t platform, uint32_t options)
+{
+    struct igvm_digest *digest = take(sizeof *digest);
+    uint32_t status = igvm_measure(file.bytes, file.size, platform, options, digest);
+    printf("measure %" PRIu32 " %" PRIu32 " %" PRIu32, status, platform, options);
+    if (is_answered(status, digest, sizeof *digest))
+        put_digest(digest->bytes, sizeof digest->bytes);
+    free(digest);
+}
+
+static void ask_sev_measure(struct file file, uint32_t platform)
+{
+    struct igvm_sev_digest *digest = take(sizeof *digest);
+    uint32_t status = igvm_sev_measure(file.bytes, file.size, platform, digest);
+    printf("sev %" PRIu32 " %" PRIu32, status, platform);
+    if (is_answered(status, digest, sizeof *digest))
+        put_digest(digest->bytes, sizeof digest->bytes);
+    free(digest);
+}
+
+/* Gives the next header's offset, 0 where there is none. */
 static uint64_t ask_header(struct file file, uint64_t at)
 {
-    struct igvm_header *h = block(sizeof *h);
+    struct igvm_header_fields *found = take(sizeof *found);
+    uint32_t status = igvm_header(file.bytes, file.size, at, found);
     uint64_t next = 0;
-    printf("header %llu", (unsigned long long)at);
-    if (is_answered(igvm_header(file.bytes, file.size, at, h), h, sizeof *h)) {
-        next = h->next;
-        printf(" %u %llu %x %llu %llu %llu\n", h->number, (unsigned long long)h->at, h->kind,
-               (unsigned long long)h->length, (unsigned long long)h->content_at, (unsigned long long)h->next);
-    }
-    __real_free(h);
+    printf("header %" PRIu32 " %" PRIu64, status, at);
+    if (is_answered(status, found, sizeof *found))
+        printf(" %" PRIu32 " at %" PRIu64 " content %" PRIu64 " length %" PRIu64 " next %" PRIu64 " kind %08" PRIx32
+               "\n", found->number, found->at, found->content_at, found->length, next = found->next, found->kind);
+    free(found);
     return next;
 }
 
 static void ask_pages(struct file file, uint64_t at)
 {
-    struct igvm_pages *pages = block(sizeof *pages);
-    printf("pages %llu", (unsigned long long)at);
-    if (is_answered(igvm_pages(file.bytes, file.size, at, pages), pages, sizeof *pages))
-        printf(" %016llx %llu %llu %llu\n", (unsigned long long)pages->gpa, (unsigned long long)pages->count,
-               (unsigned long long)pages->data_at, (unsigned long long)pages->data_size);
-    __real_free(pages);
+    struct igvm_pages_fields *found = take(sizeof *found);
+    uint32_t status = igvm_pages(file.bytes, file.size, at, found);
+    printf("pages %" PRIu32 " %" PRIu64, status, at);
+    if (is_answered(status, found, sizeof *found))
+        printf(" gpa %016" PRIx64 " count %" PRIu64 " from %" PRIu64 " size %" PRIu64 "\n", found->gpa, found->count,
+               found->data_at, found->data_size);
+    free(found);
 }
 
-static void ask_headers(struct file file)
+static uint64_t ask_at(struct file file, uint64_t at)
+{
+    uint64_t next = ask_header(file, at);
+    ask_pages(file, at);
+    return next;
+}
+
+/* Where the fixed header says that the first header stands. */
+static uint64_t section_at(struct file file)
 {
     uint64_t at = 0;
+    for (size_t i = 12; file.size >= 12 && i > 8; i--)
+        at = at << 8 | file.bytes[i - 1];
+    return at;
+}
+
+/* The walk over all headers, the first once more by its own offset, and then offsets at which none stands. */
+static void ask_headers(struct file file)
+{
+    uint64_t beside[BESIDE], at = 0;
+    size_t count = 0;
     do {
-        uint64_t next = ask_header(file, at);
-        ask_pages(file, at);
+        uint64_t next = ask_at(file, at);
+        if (count < BESIDE)
+            beside[count++] = at + 1;
+        if (next != 0 && next <= at) {
+            printf("header backwards %" PRIu64 "\n", next);
+            next = 0;
+        }
         at = next;
     } while (at != 0);
-    ask_header(file, 23);
-    ask_pages(file, file.size);
-    ask_header(file, (uint64_t)1 << 63);
+    ask_at(file, section_at(file));
+    for (size_t i = 0; i < count; i++)
+        ask_at(file, beside[i]);
+    ask_at(file, file.size);
+    ask_at(file, (uint64_t)1 << 63);
+    ask_at(file, UINT64_MAX);
 }
 
-static void ask_alike(struct file first, uint32_t p, struct file second, uint32_t q, uint32_t options)
+static void ask_alike(const char *who, struct file first, uint32_t p, struct file second, uint32_t q, uint32_t options)
 {
-    uint32_t *alike = block(sizeof *alike);
-    printf("alike %u %u %u", p, q, options);
-    if (is_answered(igvm_measured_alike(first.bytes, first.size, p, second.bytes, second.size, q, options, alike), alike,
-                    sizeof *alike))
-        printf(" %u\n", *alike);
-    __real_free(alike);
+    uint32_t *alike = take(sizeof *alike);
+    uint32_t status = igvm_measured_alike(first.bytes, first.size, p, second.bytes, second.size, q, options, alike);
+    printf("alike %" PRIu32 " %s %" PRIu32 " %" PRIu32 " %" PRIu32, status, who, p, q, options);
+    if (is_answered(status, alike, sizeof *alike))
+        printf(" %" PRIu32 "\n", *alike);
+    free(alike);
 }
 
-/* All questions about a file, and about it and the one before it. */
-static void ask(struct file file, struct file before)
+/* The first few platforms of two images, and a number past the last: each with each. */
+static void ask_pair(const char *who, struct file first, uint32_t count, struct file second, uint32_t second_count)
+{
+    for (uint32_t p = 0; p <= count && p < PAIRED; p++)
+        for (uint32_t q = 0; q <= second_count && q < PAIRED; q++)
+            for (uint32_t options = 0; options < OPTIONS; options++)
+                ask_alike(who, first, p, second, q, options);
+}
+
+/* Everything about one file; gives how many platforms it has. */
+static uint32_t ask_file(struct file file)
 {
     uint32_t count;
     ask_check(file);
     count = ask_count(file);
-    for (uint32_t number = 0; number <= count; number++)
+    for (uint32_t number = 0; number <= count; number++) {
         ask_platform(file, number);
+        for (uint32_t options = 0; options < OPTIONS; options++)
+            ask_measure(file, number, options);
+        ask_sev_measure(file, number);
+    }
+    ask_platform(file, UINT32_MAX);
+    ask_measure(file, 0, UINT32_MAX);
     for (uint32_t kind = 0; kind < KINDS; kind++)
-        ask_first(file, kind);
-    for (uint32_t number = 0; number < count && number < MEASURED_PLATFORMS; number++)
-        ask_digests(file, number);
-    ask_digests(file, count);
+        ask_first_platform(file, kind);
+    ask_first_platform(file, UINT32_MAX);
     ask_headers(file);
-    for (uint32_t p = 0; p <= count && p < MEASURED_PLATFORMS; p++)
-        for (uint32_t q = 0; q <= count && q < MEASURED_PLATFORMS; q++)
-            ask_alike(file, p, file, q, 0);
-    for (uint32_t options = 0; options < OPTIONS; options++) {
-        ask_alike(before, 0, file, 0, options);
-        ask_alike(file, 0, before, 0, options);
-    }
+    ask_pair("itself", file, count, file, count);
+    return count;
 }
 
-static void ask_all(const char *list)
+/* The file that was asked about last, and how many platforms it has. */
+static struct file before;
+static uint32_t before_count;
+
+static void ask_next(const char *name, struct file file, int times)
 {
-    char name[4096];
-    struct file before = {block(0), 0};
-    FILE *names = fopen(list, "r");
-    if (names == NULL)
-        exit(2);
-    for (uint32_t rule = 0; rule <= 27; rule++)
-        ask_text(rule);
-    while (fgets(name, sizeof name, names) != NULL) {
-        struct file file;
-        name[strcspn(name, "\n")] = '\0';
-        file = read_file(name);
-        printf("file %s\n", name);
-        ask(file, before);
-        __real_free(before.bytes);
-        before = file;
+    uint32_t count = 0;
+    printf("file %s\n", name);
+    for (int i = 0; i < times; i++) {
+        count = ask_file(file);
+        ask_pair("forth", before, before_count, file, count);
+        ask_pair("back", file, count, before, before_count);
     }
-    __real_free(before.bytes);
-    fclose(names);
-    printf("allocations %lu\n", allocations);
+    free(before.bytes);
+    before = file;
+    before_count = count;
 }
 
-/* What a thread measures, and whether it always came to the same. */
+static void ask_list(const char *list, int times)
+{
+    struct file names = read_file(list);
+    char *name = (char *)names.bytes;
+    for (size_t i = 0; i < names.size; i++)
+        if (names.bytes[i] == '\n') {
+            names.bytes[i] = '\0';
+            ask_next(name, read_file(name), times);
+            name = (char *)names.bytes + i + 1;
+        }
+    free(names.bytes);
+}
+
+static void ask_zeros(const char *text)
+{
+    size_t size = (size_t)strtoull(text, NULL, 10);
+    struct file file = {calloc(size, 1), size};
+    if (file.bytes == NULL)
+        stop("want of memory", text);
+    ask_next(text, file, 1);
+}
+
+/* What a thread measures, turn by turn, what one thread alone had, and how often it was otherwise. */
 struct job {
     struct file files[2];
     struct igvm_digest digests[2];
-    int is_alike;
+    unsigned long runs, unlike;
 };
 
-static void *measure_both(void *given)
+static void *measure_often(void *given)
 {
     struct job *job = given;
     for (int round = 0; round < ROUNDS; round++)
         for (int i = 0; i < 2; i++) {
-            struct igvm_digest digest;
-            if (igvm_measure(job->files[i].bytes, job->files[i].size, 0, IGVM_PLAIN, &digest) != IGVM_OK
-                || memcmp(&digest, &job->digests[i], sizeof digest) != 0)
-                job->is_alike = 0;
+            struct igvm_digest digest = {{0}};
+            uint32_t status = igvm_measure(job->files[i].bytes, job->files[i].size, 0, IGVM_PLAIN, &digest);
+            job->runs++;
+            if (status != IGVM_OK || memcmp(&digest, &job->digests[i], sizeof digest) != 0)
+                job->unlike++;
         }
     return NULL;
 }
 
-static int measure_at_once(const char *first, const char *second)
+/* One thread goes from a file to the other, the other thread the other way round. */
+static void measure_at_once(const char *who, struct file one, struct file other)
 {
-    struct file a = read_file(first), b = read_file(second);
-    struct job jobs[2] = {{{a, b}, {{{0}}, {{0}}}, 1}, {{b, a}, {{{0}}, {{0}}}, 1}};
+    struct job jobs[2];
     pthread_t threads[2];
+    memset(jobs, 0, sizeof jobs);
+    jobs[0].files[0] = jobs[1].files[1] = one;
+    jobs[0].files[1] = jobs[1].files[0] = other;
+    for (int i = 0; i < 4; i++)
+        if (igvm_measure(jobs[i / 2].files[i % 2].bytes, jobs[i / 2].files[i % 2].size, 0, IGVM_PLAIN,
+                         &jobs[i / 2].digests[i % 2]) != IGVM_OK)
+            stop("isn't measured", who);
     for (int i = 0; i < 2; i++)
-        for (int k = 0; k < 2; k++)
-            if (igvm_measure(jobs[i].files[k].bytes, jobs[i].files[k].size, 0, IGVM_PLAIN, &jobs[i].digests[k]) != IGVM_OK)
-                return 2;
-    for (int i = 0; i < 2; i++)
-        if (pthread_create(&threads[i], NULL, measure_both, &jobs[i]) != 0)
-            return 2;
+        if (pthread_create(&threads[i], NULL, measure_often, &jobs[i]) != 0)
+            stop("there is no second thread", who);
     for (int i = 0; i < 2; i++)
         pthread_join(threads[i], NULL);
-    printf("threads %s\n", jobs[0].is_alike && jobs[1].is_alike ? "alike" : "unlike");
-    put_hex(jobs[0].digests[0].bytes, sizeof jobs[0].digests[0].bytes);
-    put_hex(jobs[0].digests[1].bytes, sizeof jobs[0].digests[1].bytes);
-    __real_free(a.bytes);
-    __real_free(b.bytes);
-    return 0;
+    printf("threads %s %lu runs %lu unlike\n", who, jobs[0].runs + jobs[1].runs, jobs[0].unlike + jobs[1].unlike);
+    for (int i = 0; i < 2; i++) {
+        printf("digest");
+        put_digest(jobs[0].digests[i].bytes, sizeof jobs[0].digests[i].bytes);
+    }
+}
+
+static void ask_threads(const char *first, const char *second)
+{
+    struct file one = read_file(first), other = read_file(second);
+    measure_at_once("one file", one, one);
+    measure_at_once("two files", one, other);
+    free(one.bytes);
+    free(other.bytes);
 }
 
 int main(int count, char **words)
 {
-    if (count == 4 && strcmp(words[1], "--threads") == 0)
-        return measure_at_once(words[2], words[3]);
-    if (count != 2) {
-        fprintf(stderr, "usage: c_library LIST | --threads A B\n");
-        return 2;
+    before.bytes = take(0);
+    if (count == 4 && strcmp(words[1], "--threads") == 0) {
+        ask_threads(words[2], words[3]);
+    } else if (count >= 3 && strcmp(words[1], "--zeros") == 0) {
+        ask_next(words[2], read_file(words[2]), 1);
+        for (int i = 3; i < count; i++)
+            ask_zeros(words[i]);
+    } else if (count == 2 || (count == 3 && strcmp(words[1], "--twice") == 0)) {
+        for (uint32_t rule = 0; rule <= RULES + 2; rule++)
+            ask_texts(rule);
+        ask_texts(UINT32_MAX);
+        ask_list(words[count - 1], count - 1);
+    } else {
+        stop("usage", "c_library [--twice] LIST | --zeros FILE SIZE.. | --threads FILE FILE");
     }
-    ask_all(words[1]);
-    return 0;
+    free(before.bytes);
+    printf("taken %lu\n", taken);
+    return fflush(stdout) == 0 ? 0 : 2;
 }

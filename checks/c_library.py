@@ -1,13 +1,13 @@
 #!/usr/bin/env -S python3 -B
 """The C library answers what the program and the plain readers do.
 
-    c_library.py [FOLDER..]
+    c_library.py [FOLDER..]         the comparison; the images of these folders are asked about, too
 
-The library is `$LIBIGVM`, or out/libigvm.a as `./libigvm` builds it. The driver c_library.c and examples/c/measure.c are
-compiled with all warnings as errors. The driver asks every function about each image of compare.py, of examples/ and
-of the folders named, and its lines are compared with library_answers.py; for some of the images also with what the
-program lists and measures, and the example with the program. Under valgrind some images are asked about once more, and
-two threads measure at once. Ends with 77 where the library, a C compiler or a tool that they need is missing.
+The library is the one that `$LIBIGVM` names, or out/libigvm.a as `./libigvm` builds it. The driver c_library.c is
+linked with it. It asks every function of include/igvm.h about the images of compare.py, of examples/ and of the folders
+that are named, and its lines are compared with c_answers.py; those of some thousand images also with what the program
+lists and measures, and examples/c/measure.c with the program. Valgrind watches the driver on images of each kind, and
+the library's symbols say what it could call. Ends with 77 where a C compiler is missing, or the library and `rt` are.
 """
 import glob
 import multiprocessing
@@ -19,75 +19,103 @@ import sys
 import tempfile
 from collections import Counter
 
+import c_answers
+import cases
 import compare
-import library_answers
-from library_answers import Answers
+import reader
+from c_answers import File
+from c_listing import Told
 from listing import PLATFORM_KINDS
-from program import PATH, ROOT, is_built, shared_memory
+from program import ROOT, Program, is_built, shared_memory
+from records import FIXED_SIZES, fixed
 
-BATCH, EACH, SHOWN, WATCHED = 64, 8, 10, 40
-FLAGS = "-std=c11 -O2 -Wall -Wextra -Wconversion -Wshadow -pedantic -Werror".split()
-WRAPS = "-Wl,--wrap=malloc,--wrap=calloc,--wrap=realloc,--wrap=free"
-DRIVER, EXAMPLE = "checks/c_library.c", "examples/c/measure.c"
-INCLUDE = os.path.join(ROOT, "include")
+BATCH, SHOWN = 64, 10               # images in one process; differences that are printed
+BY_PROGRAM, BY_EXAMPLE = 8, 64      # of the images that aren't thorough, every so many is tried by these, too
+MEASURED = 3                        # the platforms that the program measures, at most, and one more
+WATCHED, LARGEST = 2, 20_000        # of each rule valgrind sees so many images, of at most so many bytes
+HEADER = os.path.join(ROOT, "include", "igvm.h")
+DRIVER, EXAMPLE = (os.path.join(ROOT, *names) for names in (("checks", "c_library.c"), ("examples", "c", "measure.c")))
+WARNINGS = "-Wall -Wextra -Wconversion -Wshadow -pedantic -Werror".split()
+CALLED = {"memcpy", "memmove", "memset", "memcmp", "bcmp"}          # what is linked with the library, at most
+STATUSES = {"check": (0, 1, 2), "count": (0, 1, 2), "platform": (0, 1, 2, 3), "first": (0, 1, 2, 3, 8),
+            "measure": (0, 1, 2, 3, 4, 8), "sev": (0, 1, 2, 3, 4), "header": (0, 1, 2, 6), "pages": (0, 1, 2, 6, 7),
+            "alike": (0, 1, 2, 3, 4, 5, 8)}
+# What some image has to meet.
+ASKED = (
+    *(f"{word} {status}" for word, statuses in STATUSES.items() for status in statuses), *c_answers.RULES,
+    *(f"platform of {kind}" for kind in PLATFORM_KINDS), *(f"digest of {kind}" for kind in PLATFORM_KINDS[2:]),
+    "page", "page of zeros", "large page", "large page of zeros", "insert of a page", "insert of several pages",
+    "context", "context of zeros", "cut context", "context at the end", "carried header", "option changes a digest",
+    "option keeps a digest", "another image alike", "another image unlike",
+)
 
 
-# The library and what is linked with it
+# The library, and what is linked with it
 
 def find_library():
-    """The library's path, or None and a line that says why there is none."""
-    if "LIBIGVM" in os.environ:
-        return os.path.abspath(os.environ["LIBIGVM"]), None
-    if shutil.which("rt"):
-        built = subprocess.run([os.path.join(ROOT, "libigvm")], stdin=subprocess.DEVNULL, capture_output=True, text=True)
+    """Its path, or None; and then why, and the status of the check."""
+    path = os.environ.get("LIBIGVM")
+    if path is None and shutil.which("rt"):
+        built = subprocess.run([os.path.join(ROOT, "libigvm")], stdin=subprocess.DEVNULL, capture_output=True,
+                               text=True)
         if built.returncode:
-            return None, built.stderr.strip()
-    path = os.path.join(ROOT, "out", "libigvm.a")
-    return (path, None) if os.path.exists(path) else (None, "the library isn't built, and rt isn't there")
+            return None, built.stderr.strip(), 1
+    path = os.path.abspath(path or os.path.join(ROOT, "out", "libigvm.a"))
+    return (path, None, 0) if os.path.isfile(path) else (None, "skipped, the library isn't built", 77)
+
+
+def compiled(words):
+    """What is wrong where a compiler says a word."""
+    done = subprocess.run(words, stdin=subprocess.DEVNULL, capture_output=True, text=True)
+    return [f"{' '.join(words)}: status {done.returncode} {done.stderr}"] if done.returncode or done.stderr else []
 
 
 def build(compiler, library, folder):
-    """Builds the driver and the example into the folder; lines on what the compilers say."""
-    faults = []
-    for source, name, more in ((DRIVER, "driver", [WRAPS, "-pthread"]), (EXAMPLE, "example", [])):
-        words = [compiler, *FLAGS, "-I", INCLUDE, os.path.join(ROOT, source), library, *more,
-                 "-o", os.path.join(folder, name)]
-        done = subprocess.run(words, capture_output=True, text=True)
-        if done.returncode or done.stderr:
-            faults.append(f"{source} isn't compiled without a word: {done.stderr}")
+    """Puts the driver and the example into the folder, and looks at the header as C++, too."""
+    c = [compiler, "-std=c11", "-O2", *WARNINGS, f"-I{os.path.dirname(HEADER)}"]
+    faults = compiled([*c, DRIVER, library, "-pthread", "-o", os.path.join(folder, "driver")])
+    faults += compiled([*c, EXAMPLE, library, "-o", os.path.join(folder, "example")])
     if shutil.which("c++"):
-        done = subprocess.run(["c++", "-fsyntax-only", "-x", "c++", "-Wall", "-Wextra", "-Werror",
-                               os.path.join(INCLUDE, "igvm.h")], capture_output=True, text=True)
-        if done.returncode:
-            faults.append(f"include/igvm.h isn't C++: {done.stderr}")
+        faults += compiled(["c++", "-std=c++11", *WARNINGS, "-fsyntax-only", "-x", "c++", HEADER])
     return faults
 
 
-def asked_for(library):
-    """What the library asks of C beside copying, filling and comparing bytes: no memory, no stream, no thread."""
-    if not shutil.which("nm"):
-        return []
-    listed = subprocess.run(["nm", "-u", library], capture_output=True, text=True).stdout
-    names = set(re.findall(r"(?m)^\s+U (\S+)$", listed)) - {"memcpy", "memmove", "memset", "memcmp", "bcmp"}
-    return [f"the library asks C for {name}" for name in sorted(names)]
+def rule_faults():
+    """Where the rules of the header aren't those that c_answers.py has, in their order."""
+    with open(HEADER, encoding="utf-8") as file:
+        names = re.findall(r"^ +IGVM_RULE_(\w+)", file.read(), re.M)
+    wanted = [re.sub("(?<=[a-z])(?=[A-Z])", "_", name).upper() for name in c_answers.RULES]
+    return [] if names == wanted else [f"the header has the rules {names}, expected {wanted}"]
 
 
-# The images, in batches
+def symbol_faults(library):
+    """What the library calls beside CALLED, what it could keep a state in, and names that the header hasn't."""
+    table = subprocess.run(["nm", library], capture_output=True, text=True).stdout
+    found = re.findall(r"^[0-9a-f ]+ ([A-Za-z]) (\S+)$", table, re.M)
+    with open(HEADER, encoding="utf-8") as file:
+        offered = set(re.findall(r"^\w+ (igvm_\w+)\(", file.read(), re.M))
+    yield from (f"the library calls {name}" for kind, name in found if kind in "Uw" and name not in CALLED)
+    yield from (f"the library keeps a state in {name}" for kind, name in found if kind in "BbCDdGgSs")
+    yield from (f"{name} is in the header or in the library alone"
+                for name in sorted(offered ^ {name for kind, name in found if kind == "T"}))
+
+
+# The images
 
 def images(folders):
-    """(what it is, the image) of each case."""
-    for name, image, _ in compare.images():
-        yield name, image
+    """(what it is, the image, it is thorough) of each."""
     for folder in (os.path.join(ROOT, "examples"), *folders):
         for path in sorted(glob.glob(os.path.join(folder, "*.igvm"))):
             with open(path, "rb") as file:
-                yield os.path.basename(path), file.read()
+                yield path, file.read(), True
+    yield from compare.images()
 
 
 def batches(folders):
+    """(what it is, the image, the program tries it, and the example) of the images, so many at once."""
     batch = []
-    for case in images(folders):
-        batch.append(case)
+    for number, (name, image, is_thorough) in enumerate(images(folders)):
+        batch.append((name, image, is_thorough or number % BY_PROGRAM == 0, is_thorough or number % BY_EXAMPLE == 0))
         if len(batch) == BATCH:
             yield batch
             batch = []
@@ -95,202 +123,283 @@ def batches(folders):
         yield batch
 
 
-def write(folder, batch):
-    """The file of the names, and these, of a batch that is written into a folder."""
-    names = [os.path.join(folder, str(number)) for number in range(len(batch))]
-    for path, (_, image) in zip(names, batch):
+def watched_images():
+    """Those of examples/, those with every kind of header, and some that break each rule."""
+    for path in sorted(glob.glob(os.path.join(ROOT, "examples", "*.igvm"))):
+        with open(path, "rb") as file:
+            yield file.read()
+    yield from (cases.every_kind(version) for version in FIXED_SIZES)
+    met = Counter()
+    for _, image, _ in compare.images():
+        fault = reader.first_fault(image) if len(image) <= LARGEST else None
+        if fault and met[fault[0]] < WATCHED:
+            met[fault[0]] += 1
+            yield image
+        if met.total() == WATCHED * len(reader.NAMES):
+            return
+
+
+# The driver's lines
+
+def write(folder, contents):
+    """Writes the contents into files, and a list of these; the files' paths, and the list's."""
+    paths = [os.path.join(folder, str(number)) for number in range(len(contents))]
+    for path, content in zip(paths, contents):
         with open(path, "wb") as file:
-            file.write(image)
-    listed = os.path.join(folder, "list")
-    with open(listed, "w", encoding="utf-8") as file:
-        file.writelines(name + "\n" for name in names)
-    return listed, names
+            file.write(content)
+    with open(os.path.join(folder, "list"), "w", encoding="utf-8") as file:
+        file.writelines(f"{path}\n" for path in paths)
+    return paths, file.name
 
 
-def told(output):
-    """The driver's lines before the first file, those of each file, and the last one."""
-    parts = [part.splitlines() for part in re.split(r"(?m)^file .*\n", output)]
-    return parts[0], parts[1:-1] + [parts[-1][:-1]], parts[-1][-1]
+def drive(words):
+    """The driver's lines, the last of which is how it ended where it didn't end well; and its error output."""
+    done = subprocess.run(words, stdin=subprocess.DEVNULL, capture_output=True, text=True)
+    ending = [f"status {done.returncode} {done.stderr[:2000]}"] if done.returncode else []
+    return done.stdout.splitlines() + ending, done.stderr
 
 
-# What the program says of the same image
-
-def program(*words):
-    done = subprocess.run([PATH, *words], capture_output=True, text=True, stdin=subprocess.DEVNULL)
-    return done.returncode, done.stdout, done.stderr
-
-
-def refusal(lines):
-    """The program's text on a refused file, by the library's answer, or None."""
-    _, status, *fault = lines[0].split()
-    if int(status) != library_answers.RULE:
-        return None
-    at, rule, number = map(int, fault)
-    name = library_answers.NAMES[rule - 1]
-    more = {"UnknownType": f"{number:08x}", "Flags": str(number)}.get(name, "")
-    return f"igvm: file refused at {at}: {library_answers.RULES[name]}{more}\n"
+def parts(lines):
+    """The lines before the first file, and those about each file; the last one is of none."""
+    starts = [number for number, text in enumerate(lines) if text.startswith("file ")] + [len(lines) - 1]
+    return lines[:starts[0]], [lines[at + 1:end] for at, end in zip(starts, starts[1:])]
 
 
-def found(lines, word):
-    """The answers to questions of this word that have one, in fields."""
-    parts = (line.split() for line in lines)
-    return [part for part in parts if part[0] == word and part[-1] != "kept"]
+def difference(got, want):
+    """The first line that is another."""
+    at = next((at for at, (one, other) in enumerate(zip(got, want)) if one != other), min(len(got), len(want)))
+    return f"the library answers {got[at:at + 1]}, expected {want[at:at + 1]}"
 
 
-def listed(lines):
-    """What the listing says of the headers, by the library's answers: (number, place) and the words it knows."""
-    walk, pages = found(lines, "header"), {part[1]: part[3:] for part in found(lines, "pages")}
-    platforms = iter(found(lines, "platform"))
-    for _, asked, _, number, at, kind, *_ in walk:
-        text = ""
-        if kind == "1":
-            _, _, _, its, mask, its_kind, vtl, version, shared = next(platforms)
-            text = (f"platform {its} mask {mask} kind {PLATFORM_KINDS[int(its_kind)]} vtl {vtl} version {version} "
-                    f"shared {shared}")
-        elif asked in pages:
-            gpa, count, data_at, _ = pages[asked]
-            text = {"302": f"page gpa {gpa} .* from {data_at} size {int(count) * 4096} .*",
-                    "303": f"insert gpa {gpa} .*", "304": f"context gpa {gpa} .* from {data_at} .*"}[kind]
-        yield f"{number} at {at} {text or '.*'}"
+def compared(lines, files, times=1, about_rules=True):
+    """(the number of the file, what differs) where the lines aren't those of c_answers.py."""
+    texts = list(c_answers.texts()) if about_rules else []
+    before_files, about = parts(lines)
+    if not lines[-1].startswith("taken ") or len(about) != len(files):
+        yield 0, f"the driver ends with {lines[-1]!r} behind {len(about)} files of {len(files)}"
+    if before_files != texts:
+        yield 0, difference(before_files, texts)
+    before = File(b"")
+    for number, (file, got) in enumerate(zip(files, about)):
+        want = times * list(c_answers.answers(file, before))
+        if got != want:
+            yield number, difference(got, want)
+        before = file
 
 
-def differences(name, path, lines):
-    """How the program's answers differ from the library's."""
-    refused, (status, output, error) = refusal(lines), program("print", path)
-    if refused is not None:
-        if (status, error) != (1, refused):
-            yield f"{name}: print puts {error!r}, the library {refused!r}"
-        return
-    wanted, rows = list(listed(lines)), output.splitlines()[1:]
-    if len(wanted) != len(rows) or not all(re.fullmatch(want, row) for want, row in zip(wanted, rows)):
-        yield f"{name}: the walk over the headers is not what print lists"
-    for word, asked, options, _, digest in found(lines, "digest"):
-        words = ["measure", path, "--platform", asked, *(["--native-zero"] if options == "1" else [])]
-        if program(*words)[1] != digest + "\n":
-            yield f"{name}: {' '.join(words[2:])}: the program has another digest"
-    for _, asked, _, digest in found(lines, "sev"):
-        if program("sev-measure", path, "--platform", asked)[1] != digest + "\n":
-            yield f"{name}: sev-measure {asked}: the program has another digest"
+# What the answers meet
+
+def run_kinds(file, number):
+    """What the pages of a header are."""
+    header, run = file.headers[number], c_answers.placed(file, number)
+    if header.name == "Insert":
+        yield "insert of a page" if run[1] == 1 else "insert of several pages"
+    elif header.name == "Page":
+        yield f"{'large page' if run[1] > 1 else 'page'}{'' if run[2] else ' of zeros'}"
+    elif header.name == "Context" and run[2] == fixed(file.image).total:
+        yield "context at the end"
+    elif header.name == "Context":
+        yield "context of zeros" if run[2] == 0 else "cut context" if run[3] < 4096 else "context"
+    elif header.name == "Carried":
+        yield "carried header"
 
 
-def example_differs(name, example, path):
-    done = subprocess.run([example, path], capture_output=True, text=True)
-    ours, theirs = (done.returncode, done.stdout, done.stderr), program("measure", path, "--platform", "snp")
-    return [] if ours == theirs else [f"{name}: the example answers {ours}, the program {theirs}"]
+def kinds(file, lines):
+    """The kinds of answers about a file, in the words of ASKED."""
+    for text in lines:
+        word, status, rest = text.split(" ", 2)
+        yield f"{word} {status}"
+        if word == "alike" and status == "0" and not rest.startswith("itself"):
+            yield f"another image {'alike' if rest.endswith('1') else 'unlike'}"
+    if file.fault:
+        yield file.fault[0]
+    for number, one in enumerate(file.platforms):
+        kind = PLATFORM_KINDS[one.kind]
+        yield f"platform of {kind}"
+        if one.kind in c_answers.MEASURED and file.digest(number, 0).strip(b"\0"):
+            yield f"digest of {kind}"
+            yield f"option {'keeps' if file.digest(number, 0) == file.digest(number, 1) else 'changes'} a digest"
+        elif one.kind in c_answers.SEV_MEASURED:
+            yield f"digest of {kind}"
+    for number in range(len(file.headers)):
+        yield from run_kinds(file, number)
 
 
 # One batch
 
-def kinds(lines):
-    """Which kinds of answers these are."""
-    for line in lines:
-        word, *rest = line.split()
-        status = rest[{"check": 0, "count": 0, "digest": 2, "alike": 3}.get(word, 1)]
-        yield f"{word} {status}"
-        if word == "check" and status == "1":
-            yield f"rule {rest[2]}"
-        if word == "pages" and status == "0":
-            yield "large page" if rest[3] == "512" else "cut data" if 0 < int(rest[5]) < 4096 else "page"
+def measurements(told):
+    """(command, P, whether with the option, status and output and error by the library) of the program's."""
+    for platform in range(min(len(told.kinds), MEASURED) + 1):
+        for options in (0, 1):
+            yield "measure", str(platform), options, told.measured("measure", platform, options)
+        yield "sev-measure", str(platform), 0, told.measured("sev", platform, 0)
+    for kind in ("snp", "tdx"):
+        yield "measure", kind, 0, told.measured_first("measure", kind)
+    for kind in ("sev", "sev_es"):
+        yield "sev-measure", kind, 0, told.measured_first("sev", kind)
 
 
-def set_up(built, has_program):
-    global tools, with_program
-    tools, with_program = built, has_program
+class Bench:
+    """Asks about images in a folder of its own; there is one in each process."""
 
+    def __init__(self, tools, has_program):
+        self.tools, self.folder, self.has_program = tools, tempfile.mkdtemp(dir=tools), has_program
+        self.program = Program(self.folder)
 
-def try_batch(numbered):
-    """How many images there were, how many runs of the program, differences, and the kinds of answers that were met."""
-    number, batch = numbered
-    met, differing, runs = Counter(), [], 0
-    with tempfile.TemporaryDirectory(dir=tools) as folder:
-        names_file, paths = write(folder, batch)
-        done = subprocess.run([os.path.join(tools, "driver"), names_file], capture_output=True, text=True)
-        if done.returncode:
-            return len(batch), 0, [f"batch {number}: the driver ends with {done.returncode}"], met
-        texts, answered, last = told(done.stdout)
-        if texts != library_answers.texts() or last != "allocations 0":
-            differing.append(f"batch {number}: {texts} {last}")
-        before = Answers(b"")
-        for at, ((name, image), path, got) in enumerate(zip(batch, paths, answered)):
-            file = Answers(image)
-            want = library_answers.answers(file, before)
-            met.update(kinds(got))
+    def program_differs(self, told, path):
+        """How the program says otherwise than the library."""
+        status, output, error = self.program.run(["print", path])
+        if told.fault:
+            if (status, output, error) != told.refusal():
+                yield f"print answers {status, output, error}, by the library {told.refusal()}"
+            return
+        yield from told.listing_differs(output)
+        for job, wanted, options, want in measurements(told):
+            got = self.program.run([job, path, "--platform", wanted, *["--native-zero"] * options])
             if got != want:
-                ours, theirs = next(((a, b) for a, b in zip(got, want) if a != b), (len(got), len(want)))
-                differing.append(f"{name}: the library answers {ours!r}, the plain reader {theirs!r}")
-            if with_program and at % EACH == number % EACH:
-                differing += differences(name, path, got)
-                differing += example_differs(name, os.path.join(tools, "example"), path)
-                runs += 1
-            before = file
-    return len(batch), runs, differing, met
+                yield f"{job} {wanted} {options}: the program answers {got}, by the library {want}"
+
+    def example_differs(self, path):
+        done = subprocess.run([os.path.join(self.tools, "example"), path], stdin=subprocess.DEVNULL,
+                              capture_output=True, text=True)
+        got = done.returncode, done.stdout, done.stderr
+        want = self.program.run(["measure", path, "--platform", "snp"])
+        if got != want:
+            yield f"the example answers {got}, the program {want}"
+
+    def ask(self, batch):
+        """How many images there were, how many by the program and by the example, what differs, and what was met."""
+        paths, names = write(self.folder, [image for _, image, _, _ in batch])
+        files = [File(image) for _, image, _, _ in batch]
+        lines, _ = drive([os.path.join(self.tools, "driver"), names])
+        wrong = list(compared(lines, files))
+        differing, wrong = [f"{batch[number][0]}: {text}" for number, text in wrong], {number for number, _ in wrong}
+        tried, met = Counter(images=len(batch)), Counter()
+        for number, about in enumerate(parts(lines)[1]):
+            (name, _, by_program, by_example), path = batch[number], paths[number]
+            met.update(set(kinds(files[number], about)))
+            if by_program and self.has_program and number not in wrong:
+                tried["program"] += 1
+                differing += [f"{name}: {text}" for text in self.program_differs(Told(about), path)]
+            if by_example and self.has_program:
+                tried["example"] += 1
+                differing += [f"{name}: {text}" for text in self.example_differs(path)]
+        return tried, differing, met
 
 
-ASKED = (*(f"check {n}" for n in (0, 1)), *(f"rule {n}" for n in range(1, 27)), "count 0", "count 1",
-         *(f"platform {n}" for n in (0, 1, 3)), *(f"first {n}" for n in (0, 1, 3, 8)),
-         *(f"digest {n}" for n in (0, 1, 3, 4, 8)), *(f"sev {n}" for n in (0, 1, 3, 4)),
-         *(f"header {n}" for n in (0, 1, 6)), *(f"pages {n}" for n in (0, 1, 6, 7)),
-         *(f"alike {n}" for n in (0, 1, 3, 4, 5, 8)), "large page", "cut data", "page")
+def set_up(tools, has_program):
+    """Makes this process's bench."""
+    global bench
+    bench = Bench(tools, has_program)
 
 
-# Two threads, and valgrind
-
-def threads(tools_folder):
-    first, second = (os.path.join(ROOT, "examples", name) for name in ("boot.igvm", "guest.igvm"))
-    done = subprocess.run([os.path.join(tools_folder, "driver"), "--threads", first, second], capture_output=True,
-                          text=True)
-    wanted = [Answers(open(path, "rb").read()).digest(0, False).hex() for path in (first, second)]
-    got = [line.strip() for line in done.stdout.splitlines()]
-    return [] if got == ["threads alike", *wanted] else [f"two threads at once: {got}, expected {wanted}"]
+def ask(batch):
+    return bench.ask(batch)
 
 
-def watched(tools_folder):
-    """What valgrind says of the driver on some images of each kind; None where it isn't there."""
-    if not shutil.which("valgrind"):
-        return None
-    chosen = [case for at, case in enumerate(compare.images()) if at < WATCHED or at % 1500 == 0]
-    batch = [(name, image) for name, image, _ in chosen if len(image) < 200_000]
-    with tempfile.TemporaryDirectory(dir=tools_folder) as folder:
-        names_file, _ = write(folder, batch)
-        words = ["valgrind", "-q", "--error-exitcode=9", "--leak-check=full", os.path.join(tools_folder, "driver"), names_file]
-        done = subprocess.run(words, capture_output=True, text=True)
-    return [] if done.returncode == 0 and not done.stderr else [f"valgrind: {done.returncode} {done.stderr[:2000]}"]
+# What is asked once
+
+def longest(tools):
+    """A file of the limit's size, and one of a byte more: what differs, and what was met."""
+    path, limit = os.path.join(ROOT, "examples", "guest.igvm"), c_answers.LIMIT
+    lines, _ = drive([os.path.join(tools, "driver"), "--zeros", path, str(limit), str(limit + 1)])
+    with open(path, "rb") as file:
+        files = [File(file.read()), Zeros(limit), File(b"", limit + 1)]
+    met = [kind for file, about in zip(files, parts(lines)[1]) for kind in kinds(file, about)]
+    return [f"file {number} of the longest: {text}" for number, text in compared(lines, files, about_rules=False)], met
 
 
-def run(folders, tools_folder):
-    differing, met, count, runs = [], Counter(), 0, 0
-    watching = watched(tools_folder)
-    with multiprocessing.Pool(min(4, os.cpu_count() or 1), set_up, (tools_folder, is_built())) as pool:
-        for its_count, its_runs, its_differing, its_met in pool.imap(try_batch, enumerate(batches(folders))):
-            count, runs, differing = count + its_count, runs + its_runs, differing + its_differing
-            met.update(its_met)
-    faults = differing[:SHOWN] + [f"no image has met: {kind}" for kind in ASKED if not met[kind]]
-    faults += threads(tools_folder) + (watching or [])
+class Zeros(File):
+    """So many zeros: no image, since it begins otherwise."""
+
+    def __init__(self, size):
+        super().__init__(bytes(24), size)
+        self.size = size
+
+
+def threads(tools):
+    """What differs where two threads measure at once."""
+    paths = [os.path.join(ROOT, "examples", name) for name in ("boot.igvm", "guest.igvm")]
+    want = []
+    for who, pair in (("one file", paths[:1] * 2), ("two files", paths)):
+        want += [f"threads {who} 400 runs 0 unlike"]
+        for path in pair:
+            with open(path, "rb") as file:
+                want.append(f"digest {File(file.read()).digest(0, 0).hex()}")
+    lines, _ = drive([os.path.join(tools, "driver"), "--threads", *paths])
+    return [] if lines[:-1] == want else [f"two threads: {difference(lines[:-1], want)}"]
+
+
+def watched(tools):
+    """What differs under valgrind: a word of its own, an answer, or memory that the library takes.
+
+    All is asked once and then twice. Were the library to take memory, it would take more the second time than what the
+    driver counts.
+    """
+    contents, faults, others = list(watched_images()), [], []
+    with tempfile.TemporaryDirectory(dir=tools) as folder:
+        _, names = write(folder, contents)
+        for times in (1, 2):
+            words = ["valgrind", "--error-exitcode=9", "--leak-check=full", "--errors-for-leak-kinds=all",
+                     os.path.join(tools, "driver"), *["--twice"] * (times - 1), names]
+            lines, said = drive(words)
+            faults += [f"under valgrind, file {number}: {text}"
+                       for number, text in compared(lines, [File(content) for content in contents], times)]
+            found = re.search(r"total heap usage: ([\d,]+) allocs", said)
+            if not found or "ERROR SUMMARY: 0 errors" not in said:
+                return len(contents), [*faults, f"valgrind says {said[-2000:]}"]
+            others.append(int(found[1].replace(",", "")) - int(lines[-1].split()[1]))
+    if others[0] != others[1]:
+        faults.append(f"the library takes memory: beside the driver's, {others[0]} places, asked twice {others[1]}")
+    return len(contents), faults
+
+
+# The check
+
+def run(folders, library, tools):
+    """What all find together, and the lines of counts."""
+    faults, differing, tried, met, notes = [], [], Counter(), Counter(), []
+    with multiprocessing.Pool(min(4, os.cpu_count() or 1), set_up, (tools, is_built())) as pool:
+        watching = pool.apply_async(watched, (tools,)) if shutil.which("valgrind") else None
+        for its_tried, its_differing, its_met in pool.imap(ask, batches(folders)):
+            tried += its_tried
+            differing += its_differing
+            met += its_met
+        under_valgrind = watching.get() if watching else None
+    longest_differ, longest_met = longest(tools)
+    met.update(longest_met)
+    faults += differing[:SHOWN] + longest_differ + threads(tools) + rule_faults()
+    if under_valgrind:
+        faults += under_valgrind[1]
+        notes.append(f"{under_valgrind[0]} images under valgrind")
+    else:
+        print("c_library: valgrind isn't there, and nobody watched the memory")
+    if shutil.which("nm"):
+        faults += symbol_faults(library)
+    else:
+        print("c_library: nm isn't there, and the library's symbols weren't looked at")
+    if not is_built():
+        print("c_library: the program isn't built, and only the plain readers were compared")
+    faults += [f"no image has met: {kind}" for kind in ASKED if not met[kind]]
     for fault in faults:
         print(f"c_library: {fault}")
-    if watching is None:
-        print("c_library: valgrind isn't there, and no access was watched")
-    if not is_built():
-        print("c_library: the program isn't built, and nothing was compared with it")
-    print(f"c_library: {count} images, {runs} of them by the program, {len(differing)} differ")
+    counts = [f"{tried['images']} images", *(f"{tried[by]} by the {by}" for by in ("program", "example")), *notes]
+    print(f"c_library: {', '.join(counts)}, {len(differing)} differ")
     return 1 if faults else 0
 
 
 def main():
-    compiler = next((name for name in ("cc", "clang", "gcc") if shutil.which(name)), None)
-    if compiler is None:
-        print("c_library: skipped, there is no C compiler")
-        return 77
-    library, why = find_library()
+    compiler = next((name for name in ("cc", "gcc", "clang") if shutil.which(name)), None)
+    none = None, "skipped, there is no C compiler", 77
+    library, why, status = none if compiler is None else find_library()
     if library is None:
-        print(f"c_library: skipped, {why}")
-        return 77
-    with tempfile.TemporaryDirectory(dir=shared_memory()) as folder:
-        faults = asked_for(library) + build(compiler, library, folder)
-        if faults:
-            print("\n".join(f"c_library: {fault}" for fault in faults))
-            return 1
-        return run(sys.argv[1:], folder)
+        print(f"c_library: {why}")
+        return status
+    with tempfile.TemporaryDirectory(dir=shared_memory()) as tools:
+        faults = build(compiler, library, tools)
+        for fault in faults:
+            print(f"c_library: {fault}")
+        return 1 if faults else run(sys.argv[1:], library, tools)
 
 
 if __name__ == "__main__":

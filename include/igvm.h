@@ -3,8 +3,8 @@
  *
  * Each call takes a whole file as a pointer and a length, and judges it itself. It takes no memory, keeps no
  * state, reads nothing else and writes nothing but what it is given to write; so any number of threads may call at
- * once. It answers a status: IGVM_OK, or why there is no answer. Where there is none, what it was given to write
- * is as it was; `igvm_check` alone writes the fault of a file that it refuses.
+ * once. All but `igvm_rule_text` answer a status: IGVM_OK, or why there is no answer. Where there is none, what a call
+ * was given to write is as it was; `igvm_check` alone writes the fault of a file that it refuses.
  *
  * What the caller owes: `file` points to `file_size` bytes that may be read and that nobody changes during the call;
  * it isn't null, even for 0 bytes. Each other pointer points to a whole value of its type, aligned, which is nothing
@@ -89,7 +89,7 @@ struct igvm_fault {
 };
 
 /* A platform header. */
-struct igvm_platform {
+struct igvm_platform_fields {
     uint64_t shared_gpa;  /* the guest physical address from which memory is shared with the host */
     uint32_t number;      /* its place among the platforms, from 0 */
     uint32_t mask;        /* its compatibility mask: one bit */
@@ -109,7 +109,7 @@ struct igvm_sev_digest {
 };
 
 /* Where a header stands in the file. */
-struct igvm_header {
+struct igvm_header_fields {
     uint64_t at;         /* its first byte */
     uint64_t content_at; /* its content, behind its type and its length */
     uint64_t length;     /* how many bytes its content has */
@@ -119,7 +119,7 @@ struct igvm_header {
 };
 
 /* Pages of 4,096 bytes that a header places in the guest, in a row in the guest and in the file. */
-struct igvm_pages {
+struct igvm_pages_fields {
     uint64_t gpa;       /* the guest physical address of the first */
     uint64_t count;     /* how many there are */
     uint64_t data_at;   /* where their bytes stand in the file, or 0 where it has none of them */
@@ -133,8 +133,9 @@ uint32_t igvm_check(const uint8_t *file, size_t file_size, struct igvm_fault *fa
 
 /*
  * Writes the words for a rule and a zero byte into `text`, where both have room, and nothing where they don't (32
- * bytes are enough for each). It answers how many bytes the words have: 0 where there is no such rule. "unknown
- * type " is to be followed by the fault's number in eight hexadecimal digits, "flag bit " by it in decimal ones.
+ * bytes are enough for each). It answers how many bytes the words have. A number that no rule has gives no words: the
+ * zero byte alone, and 0. "unknown type " is to be followed by the fault's number in eight hexadecimal digits, "flag
+ * bit " by it in decimal ones.
  */
 size_t igvm_rule_text(uint32_t rule, uint8_t *text, size_t text_size);
 
@@ -142,7 +143,7 @@ size_t igvm_rule_text(uint32_t rule, uint8_t *text, size_t text_size);
 uint32_t igvm_platform_count(const uint8_t *file, size_t file_size, uint32_t *count);
 
 /* The platform of a number, from 0. IGVM_RULE, IGVM_TOO_LONG, IGVM_NO_PLATFORM. */
-uint32_t igvm_platform(const uint8_t *file, size_t file_size, uint32_t number, struct igvm_platform *platform);
+uint32_t igvm_platform(const uint8_t *file, size_t file_size, uint32_t number, struct igvm_platform_fields *platform);
 
 /* The number of the first platform of a kind. IGVM_UNKNOWN first, IGVM_RULE, IGVM_TOO_LONG, IGVM_NO_PLATFORM. */
 uint32_t igvm_first_platform(const uint8_t *file, size_t file_size, uint32_t kind, uint32_t *number);
@@ -170,14 +171,14 @@ uint32_t igvm_measured_alike(const uint8_t *first, size_t first_size, uint32_t f
  * The header whose first byte is at a file offset, and the first header for 0. A host that begins with 0 and goes on
  * with `next` until that is 0 sees each header once, in file order. IGVM_RULE, IGVM_TOO_LONG, IGVM_NO_HEADER.
  */
-uint32_t igvm_header(const uint8_t *file, size_t file_size, uint64_t at, struct igvm_header *header);
+uint32_t igvm_header(const uint8_t *file, size_t file_size, uint64_t at, struct igvm_header_fields *header);
 
 /*
  * The pages that the header at a file offset places, and the first header's for 0: those of a page header and of a
  * VMSA context with their bytes, those of a parameter insert with none, since they are its area's. IGVM_RULE,
  * IGVM_TOO_LONG, IGVM_NO_HEADER, IGVM_NO_PAGES.
  */
-uint32_t igvm_pages(const uint8_t *file, size_t file_size, uint64_t at, struct igvm_pages *pages);
+uint32_t igvm_pages(const uint8_t *file, size_t file_size, uint64_t at, struct igvm_pages_fields *pages);
 
 #ifdef __cplusplus
 }

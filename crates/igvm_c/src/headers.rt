@@ -10,7 +10,7 @@ use crate::refusal::Refusal;
 use igvm_headers::Header;
 use igvm_image::{ImageView, Placed};
 
-/// `struct igvm_header`: where a header stands in the file.
+/// `struct igvm_header_fields`: where a header stands in the file.
 #[repr(C)]
 #[derive(Clone, Copy, Debug, PartialEq, Eq)]
 pub struct HeaderFields {

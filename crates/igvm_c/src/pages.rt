@@ -9,7 +9,7 @@ use crate::refusal::Refusal;
 use igvm_headers::Header;
 use igvm_image::ImageView;
 
-/// `struct igvm_pages`: pages in a row, in the guest and in the file.
+/// `struct igvm_pages_fields`: pages in a row, in the guest and in the file.
 #[repr(C)]
 #[derive(Clone, Copy, Debug, PartialEq, Eq)]
 pub struct PagesFields {

@@ -4,7 +4,7 @@ ghost use Rattle.igvm_c.specs.Platforms.{told_platform};
 
 use platform_masks::Platform;
 
-/// `struct igvm_platform`: the fields of a SUPPORTED_PLATFORM header (`igvm_defs`).
+/// `struct igvm_platform_fields`: the fields of a SUPPORTED_PLATFORM header (`igvm_defs`).
 #[repr(C)]
 #[derive(Clone, Copy, Debug, PartialEq, Eq)]
 pub struct PlatformFields {
